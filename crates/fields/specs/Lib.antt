@@ -1,0 +1,10 @@
+pub mod Bits
+pub mod Bytes
+pub mod Figures
+pub mod Laws
+pub mod Matrices
+pub mod Nibbles
+pub mod Pairs
+pub mod Polynomials
+pub mod Powers
+pub mod Towers

@@ -1,0 +1,30 @@
+//! Finite fields.
+mod bit;
+mod bit_tower;
+mod byte;
+mod field;
+mod figures;
+mod map;
+mod matrix;
+mod modular;
+mod nibble;
+mod nibble_pair;
+mod pair;
+
+pub use bit::Bit;
+pub use bit::BitField;
+pub use bit_tower::BitTower;
+pub use bit_tower::BitTowerMap;
+pub use byte::Byte;
+pub use byte::field::ByteField;
+pub use field::Field;
+pub use figures::field_figures;
+pub use map::ByteIdentity;
+pub use map::ByteMap;
+pub use map::invert_through;
+pub use nibble::Nibble;
+pub use nibble::field::NibbleField;
+pub use nibble_pair::NibblePair;
+pub use nibble_pair::NibblePairMap;
+pub use pair::Pair;
+pub use pair::PairField;
