@@ -19,7 +19,7 @@ use Rattle.fields.proofs.Additive.{Additive, Bilinear, agree, agree-twice, bel
 use Rattle.fields.proofs.Division.{term-xor, product-bilinear, product-lt}
 use Rattle.fields.proofs.FieldFacts.{right-distributes}
 use Rattle.fields.proofs.Readings.{Readable}
-use Rattle.fields.proofs.WordLaws.{byte-path, byte-degree}
+use Rattle.fields.proofs.WordLaws.{byte-path, byte-degree, value-lt}
 use Rattle.std.proofs.shelf.Tests.{eqb-true}
 
 pub columns-additive : (i : ℕ) (columns : List ℕ) → Additive bitXor (first-columns i columns)
@@ -39,9 +39,6 @@ columns-lt (suc i) columns h n =
 T-true : (b : Bool) → T b → b ≡ true
 T-true true t = refl
 T-true false t = absurd t
-
-value-lt : (b : Byte) → b .value < 256
-value-lt b = ltb→lt (b .value) 256 (b .small)
 
 -- ---- the tests: entries below 256, the two matrices undo each other, products go to products
 
@@ -91,17 +88,20 @@ module _ {F : Type 0} {zero one marker : F} {sum product : F → F → F} {inver
   image-additive a b = ap make (columns-additive 8 columns a b) ∙ readable .additive (by-columns columns a) (by-columns columns b)
 
   out-into : (b : Byte) → out (into b) ≡ b
+  unfolding byte
   out-into b =
       byte-path _ b
       (ap (λ n. by-columns back n % 256) (readable .read-made _ (image-lt columns (tested .small) (b .value)))
       ∙ ap (λ n. n % 256) (undone-at columns back (tested .forth) (b .value) (value-lt b)) ∙ mod-eq-of-lt (value-lt b))
 
   into-out : (x : F) → into (out x) ≡ x
+  unfolding byte
   into-out x =
       ap image (mod-eq-of-lt (image-lt back (tested .small-back) (read x)))
       ∙ ap make (undone-at back columns (tested .and-back) (read x) (readable .bounded x)) ∙ readable .made-read x
 
   into-sum : (a b : Byte) → into (byte-sum a b) ≡ sum (into a) (into b)
+  unfolding byte
   into-sum a b = ap image (mod-eq-of-lt (xor-lt 8 (a .value) (b .value) (value-lt a) (value-lt b))) ∙ image-additive (a .value) (b .value)
 
   image-product : (a b : ℕ) → a < 256 → b < 256 → image (product-modulo 8 0x11B a b) ≡ product (image a) (image b)
@@ -119,6 +119,7 @@ module _ {F : Type 0} {zero one marker : F} {sum product : F → F → F} {inver
       (λ i j hi hj. laws .same-means _ _ (T-true _ (below-at 8 _ (below-at 8 _ (tested .multiplied) i hi) j hj)))
 
   into-product : (a b : Byte) → into (byte-product a b) ≡ product (into a) (into b)
+  unfolding byte
   into-product a b =
       ap image (mod-eq-of-lt (product-lt 8 0x11B byte-degree (a .value) (b .value) (value-lt a))) ∙ image-product (a .value) (b .value) (value-lt a) (value-lt b)
 

@@ -1,7 +1,7 @@
 -- Powers under an associative product with a one, and the product of squares that is the power 2^(j + 1) - 2. Assumes nothing.
 use mathlib.Core.Path.{_≡_, refl, sym, ap, ap₂, _∙_}
 use Prim.Native.Nat.{ℕ, zero, suc, _+_, _-_, _*_, _^_, _<_, _≤_}
-use native.Mathlib.Nat.{zero-add, suc-add, add-suc, pow-suc}
+use native.Mathlib.Nat.{zero-add, suc-add, add-comm, zero-mul, suc-mul, pow-suc}
 use native.Mathlib.Omega.{arith}
 use lib.Pow.{pow-pos}
 use mathlib.Core.Bool.{Bool}
@@ -34,6 +34,13 @@ module _ {F : Type 0} (product : F → F → F) (one : F) (assoc : (a b c : F) �
       ap (product (product a a)) (power-square n a) ∙ assoc a a (power product one (n + n) a)
       ∙ ap (λ e. power product one e a) (let e : suc (suc (n + n)) ≡ suc n + suc n = omega arith in e)
 
+  pub power-power : (m n : ℕ) (a : F) → power product one m (power product one n a) ≡ power product one (m * n) a
+  unfolding power
+  power-power zero n a = ap (λ e. power product one e a) (sym (zero-mul n))
+  power-power (suc m) n a =
+      ap (product (power product one n a)) (power-power m n a) ∙ sym (power-add n (m * n) a)
+      ∙ ap (λ e. power product one e a) (add-comm n (m * n) ∙ sym (suc-mul m n))
+
   pub squares-is-power : (j : ℕ) (a : F) → squares product one j a ≡ power product one (2 ^ suc j - 2) a
   unfolding power squares
   squares-is-power zero a = refl
@@ -50,3 +57,6 @@ module _ {F : Type 0} {zero one marker : F} {sum product : F → F → F} {inver
 
   pub joined-powers : (m n : ℕ) {x y z : F} → z ≡ product x y → x ≡ power product one m a → y ≡ power product one n a → z ≡ power product one (m + n) a
   joined-powers m n is px py = is ∙ ap₂ product px py ∙ sym (power-add product one (laws .product-assoc) (laws .product-comm) (laws .product-one) m n a)
+
+  pub powers-of-powers : (m n : ℕ) → power product one m (power product one n a) ≡ power product one (m * n) a
+  powers-of-powers m n = power-power product one (laws .product-assoc) (laws .product-comm) (laws .product-one) m n a

@@ -39,6 +39,7 @@ pair-readable sum read make k r = record {
 }
 
 nibble-readable : Readable nibble-sum (λ a. a .value) nibble 4
+unfolding nibble
 nibble-readable = record {
   bounded = λ a. ltb→lt (a .value) 16 (a .small);
   read-made = λ n h. mod-eq-of-lt h;

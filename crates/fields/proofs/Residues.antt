@@ -83,7 +83,7 @@ module _ (k p : ℕ) (degree : Degree k p) where
   one t = agree bitXor 0 xor-self (λ x. times k p x 1) (λ x. x) (left 1) (λ a b. refl) k (λ i hi. eqb→eq _ _ (below-at k _ t i hi))
 
 -- A number that is 0, or not.
-zero-or : (n : ℕ) (x : Bool) → T (eqb n 0 || x) → (n ≡ 0 → ⊥) → T x
+pub zero-or : (n : ℕ) (x : Bool) → T (eqb n 0 || x) → (n ≡ 0 → ⊥) → T x
 zero-or zero x t ne = absurd (ne refl)
 zero-or (suc n) x t ne = subst (λ b. T (b || x)) (eqb·suc-zero n) t
 

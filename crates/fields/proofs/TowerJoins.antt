@@ -25,7 +25,7 @@ use Rattle.fields.proofs.Tables.{Tables, images-right, sources-right}
 use Rattle.fields.proofs.WordLaws.{nibble-laws}
 
 nibbles-tested : Tested (pair-product (nibble 9) nibble-sum nibble-product) (pair-same nibble-same) make-nibbles nibble-columns nibble-back
-unfolding small-columns undone multiplies below first-columns product-modulo carryless remainder coefficient
+unfolding small-columns undone multiplies below first-columns product-modulo carryless remainder coefficient nibble
 nibbles-tested = record { small = tt; small-back = tt; forth = tt; and-back = tt; multiplied = tt }
 
 pub nibbles-join : JoinsBytes (pair-sum nibble-sum) (pair-product (nibble 9) nibble-sum nibble-product) into-nibbles out-of-nibbles
@@ -41,7 +41,7 @@ tower-joins = joins (pair-laws (pair-laws (pair-laws bit-laws))) read-tower make
 -- ---- the tables
 
 pub nibble-tables : Tables read-nibbles make-nibbles nibble-columns nibble-back nibble-rows nibble-back-rows
-unfolding images-right sources-right transposes same-basis below first-columns first-rows coefficient ones onesIn
+unfolding images-right sources-right transposes same-basis below first-columns first-rows coefficient ones onesIn nibble
 nibble-tables = record { images = tt; sources = tt; transposed = tt; back-transposed = tt; basis = tt; back-basis = tt }
 
 pub tower-tables : Tables read-tower make-tower tower-columns tower-back tower-rows tower-back-rows

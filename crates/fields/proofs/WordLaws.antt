@@ -23,7 +23,18 @@ nibble-path a b e = λ i. record { value = e i; small = isProp→PathP (λ j. T 
 pub byte-path : (a b : Byte) → a .value ≡ b .value → a ≡ b
 byte-path a b e = λ i. record { value = e i; small = isProp→PathP (λ j. T (ltb (e j) 256)) (λ j. T-prop (ltb (e j) 256)) (a .small) (b .small) i }
 
+pub value-lt : (b : Byte) → b .value < 256
+value-lt b = ltb→lt (b .value) 256 (b .small)
+
+pub byte-value : (n : ℕ) → n < 256 → byte n .value ≡ n
+unfolding byte
+byte-value n h = mod-eq-of-lt h
+
+pub byte-of-value : (b : Byte) → byte (b .value) ≡ b
+byte-of-value b = byte-path (byte (b .value)) b (byte-value (b .value) (value-lt b))
+
 nibble-words : Words (λ (a : Nibble). a .value) nibble 4
+unfolding nibble
 nibble-words = record {
   injective = nibble-path;
   bounded = λ a. ltb→lt (a .value) 16 (a .small);
@@ -31,11 +42,7 @@ nibble-words = record {
 }
 
 byte-words : Words (λ (a : Byte). a .value) byte 8
-byte-words = record {
-  injective = byte-path;
-  bounded = λ a. ltb→lt (a .value) 256 (a .small);
-  made = λ n h. mod-eq-of-lt h;
-}
+byte-words = record { injective = byte-path; bounded = value-lt; made = byte-value }
 
 pub nibble-degree : Degree 4 0x13
 nibble-degree = record { above = lit≤ tt; under = lit< tt }
@@ -59,6 +66,7 @@ byte-laws = residue-laws (λ (a : Byte). a .value) byte 7 0x11B 0x20 byte-words 
 
 -- Where no nibble from 1 to 15 has the product 1 with a, the inverse of a is 0, since a is.
 pub none-fits : (a : Nibble) → ((t : ℕ) → 1 ≤ t → t < 16 → nibble-product a (nibble t) ≡ nibble 1 → ⊥) → nibble 0 ≡ nibble-inverse a
+unfolding nibble
 none-fits a none = elim (equal? nibble-laws a (nibble 0)) [ yes z ↦ inverse-unique-zero nibble-laws a (nibble 0) z refl | no n ↦ absurd (fits n) ]
   where
     r : Nibble

@@ -10,7 +10,7 @@ use Rattle.fields.specs.Powers.{power}
 use Rattle.fields.specs.declared.byte.Byte.{Byte}
 
 -- The byte that the eight lowest bits of n make.
-abbrev pub byte : ℕ → Byte
+unfoldable pub byte : ℕ → Byte
 byte n = record { value = n % 256; small = lt→ltb (n % 256) 256 (mod-lt n (omega arith)) }
 
 abbrev pub byte-sum : Byte → Byte → Byte

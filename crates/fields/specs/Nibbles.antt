@@ -10,7 +10,7 @@ use Rattle.fields.specs.Powers.{power}
 use Rattle.fields.specs.declared.nibble.Nibble.{Nibble}
 
 -- The nibble that the four lowest bits of n make.
-abbrev pub nibble : ℕ → Nibble
+unfoldable pub nibble : ℕ → Nibble
 nibble n = record { value = n % 16; small = lt→ltb (n % 16) 16 (mod-lt n (omega arith)) }
 
 abbrev pub nibble-sum : Nibble → Nibble → Nibble

@@ -32,7 +32,7 @@ pub impl Field for Bit as BitField {
     }
 
     fn marker() -> Bit {
-        Bit { value: true }
+        Self::one()
     }
 
     fn sum(self, other: Bit) -> Bit {

@@ -84,7 +84,7 @@ pub impl ByteMap for Pair<Pair<Pair<Bit>>> as BitTowerMap {
     ghost bits = { read-tower };
 
     fn into(byte: Byte) -> BitTower {
-        eight(image(&ROWS, byte.value()))
+        eight(image(&ROWS, byte.to_u8()))
     }
 
     fn out(self) -> Byte {

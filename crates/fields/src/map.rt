@@ -64,7 +64,7 @@ pub impl ByteMap for Byte as ByteIdentity {
     }
 
     fn bits(self) -> u8 {
-        self.value()
+        self.to_u8()
     }
 
     fn images() -> [u8; 8] {

@@ -46,7 +46,7 @@ pub impl ByteMap for Pair<Nibble> as NibblePairMap {
     ghost bits = { read-nibbles };
 
     fn into(byte: Byte) -> NibblePair {
-        split(image(&ROWS, byte.value()))
+        split(image(&ROWS, byte.to_u8()))
     }
 
     fn out(self) -> Byte {
@@ -54,7 +54,7 @@ pub impl ByteMap for Pair<Nibble> as NibblePairMap {
     }
 
     fn bits(self) -> u8 {
-        self.high.value() * 16 + self.low.value()
+        self.high.to_u8() * 16 + self.low.to_u8()
     }
 
     fn images() -> [u8; 8]

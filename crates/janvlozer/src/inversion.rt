@@ -33,7 +33,7 @@ fn through<F: ByteMap>(byte: Byte) -> Way
     Way {
         image: image.bits(),
         inverse: inverse.bits(),
-        back: inverse.out().value(),
+        back: inverse.out().to_u8(),
     }
 }
 
@@ -74,7 +74,7 @@ impl Inversion {
     fn product(&self) -> u8
         ensures { λ r. ⌜ r ≡ byte-product (now (self .entry) .byte) (byte (now (self .entry) .bytes .back)) .value ⌝ }
     {
-        self.byte.product(Byte::new(self.bytes.back)).value()
+        self.byte.product(Byte::new(self.bytes.back)).to_u8()
     }
 }
 
@@ -91,7 +91,7 @@ impl fmt::Display for Way as WayDisplay {
 
 pub impl fmt::Display for Inversion as InversionDisplay {
     fn fmt<W: fmt::Write>(&self, f: &mut fmt::Formatter<W>) -> fmt::Result {
-        let byte = self.byte.value();
+        let byte = self.byte.to_u8();
         let back = self.bytes.back;
         let product = self.product();
         let bytes = self.bytes;

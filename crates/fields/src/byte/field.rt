@@ -12,13 +12,6 @@ impl Byte {
     {
         Byte { value }
     }
-
-    /// The bits of the element.
-    pub fn value(self) -> u8
-        ensures { λ r. ⌜ r ≡ self .value ⌝ }
-    {
-        self.value
-    }
 }
 
 pub impl Field for Byte as ByteField {

@@ -20,13 +20,6 @@ impl Nibble {
     {
         Nibble { value: byte / 16 }
     }
-
-    /// The bits of the element, below 16.
-    pub fn value(self) -> u8
-        ensures { λ r. ⌜ r ≡ self .value ⌝ }
-    {
-        self.value
-    }
 }
 
 pub impl Field for Nibble as NibbleField {

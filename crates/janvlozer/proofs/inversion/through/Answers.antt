@@ -10,6 +10,6 @@ returns g c =
       image = c .bits .ensures ∙ ap (m .bits) (c .into-image .ensures);
       inverse = c .bits-2 .ensures ∙ ap (m .bits) inverted;
       back =
-          c .value .ensures
+          c .to-u8 .ensures
           ∙ ap (λ b. b .value) (c .out .ensures ∙ ap (m .out) inverted ∙ out-inverse (g .F·Field·met .laws) (g .F·ByteMap·met .joined) (c .args .byte));
     }

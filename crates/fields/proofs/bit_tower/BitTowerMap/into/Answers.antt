@@ -6,4 +6,4 @@ use Rattle.fields.proofs.TowerJoins.{tower-tables}
 use Rattle.fields.proofs.bit_tower.BitTowerMap.into.Needs as need
 
 pub returns : need.returns
-returns c = c .eight .ensures ∙ ap make-tower (c .image .ensures ∙ forth-by-rows tower-tables (c .value .result) (c .value .ok) ∙ ap (by-columns tower-columns) (c .value .ensures))
+returns c = c .eight .ensures ∙ ap make-tower (c .image .ensures ∙ forth-by-rows tower-tables (c .to-u8 .result) (c .to-u8 .ok) ∙ ap (by-columns tower-columns) (c .to-u8 .ensures))
