@@ -4,6 +4,7 @@ use mathlib.Core.HLevel.{isProp→PathP}
 use Prim.Native.Nat.{ℕ, zero, suc, _%_, _^_, _<_, _≤_}
 use native.Mathlib.Omega.{arith}
 use native.Mathlib.Nat.{mod-eq-of-lt}
+use lib.Bits.{bitXor, xor-lt}
 use lib.Dec.{T, T-prop, ltb, ltb→lt, lit<, lit≤}
 use Rattle.fields.specs.Laws.{FieldLaws}
 use Rattle.fields.specs.Polynomials.{coefficient, carryless, remainder, product-modulo, Degree}
@@ -32,6 +33,11 @@ byte-value n h = mod-eq-of-lt h
 
 pub byte-of-value : (b : Byte) → byte (b .value) ≡ b
 byte-of-value b = byte-path (byte (b .value)) b (byte-value (b .value) (value-lt b))
+
+-- The sum of two bytes, as numbers.
+pub sum-value : (a b : ℕ) → a < 256 → b < 256 → byte-sum (byte a) (byte b) .value ≡ bitXor a b
+sum-value a b h l =
+    byte-value _ (xor-lt 8 (byte a .value) (byte b .value) (value-lt (byte a)) (value-lt (byte b))) ∙ ap₂ bitXor (byte-value a h) (byte-value b l)
 
 nibble-words : Words (λ (a : Nibble). a .value) nibble 4
 unfolding nibble

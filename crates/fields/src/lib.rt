@@ -28,6 +28,7 @@ pub use figures::field_figures;
 pub use map::ByteIdentity;
 pub use map::ByteMap;
 pub use map::invert_through;
+pub use modular::cyclic_product;
 pub use nibble::Nibble;
 pub use nibble::field::NibbleField;
 pub use nibble_pair::NibblePair;

@@ -41,3 +41,10 @@ pub(crate) fn multiply<const DEGREE: u32, const MODULUS: u16>(a: u8, b: u8) -> u
     }
     product
 }
+
+/// a·b modulo x^8 + 1: the sum of a rotated left by each place at which b has a bit.
+pub fn cyclic_product(a: u8, b: u8) -> u8
+    ensures { λ r. ⌜ r ≡ product-modulo 8 0x101 a b ⌝ }
+{
+    multiply::<8, 0x101>(a, b)
+}

@@ -10,9 +10,9 @@ use Rattle.fields.specs.Bytes.{byte, byte-product}
 unfoldable pub Inverts : ℕ → ℕ → Type 0
 Inverts a r = (byte-product (byte a) (byte r) ≡ byte 1) ⊎ ((a ≡ 0) × (r ≡ 0))
 
--- Each of sixteen bytes inverts the one at the same place.
+-- Each of sixteen is a byte, and inverts the one at the same place.
 abbrev pub AllInvert : List ℕ → List ℕ → Type 0
-AllInvert before after = (i : ℕ) → i < 16 → Inverts (getD before i 0) (getD after i 0)
+AllInvert before after = (i : ℕ) → i < 16 → (getD after i 0 < 256) × Inverts (getD before i 0) (getD after i 0)
 
 -- The relation determines what it relates a byte to.
 abbrev pub Determined : Type 0

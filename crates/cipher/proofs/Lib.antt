@@ -1,0 +1,10 @@
+pub mod Boxes
+pub mod Columns
+pub mod Expansions
+pub mod Layouts
+pub mod Lists
+pub mod RoundSteps
+pub mod Schedules
+pub mod Substitutions
+pub mod Turning
+pub mod Undoing

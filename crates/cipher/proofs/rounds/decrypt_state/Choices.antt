@@ -1,0 +1,13 @@
+use mathlib.Core.Path.{_≡_}
+use Prim.Native.Nat.{_+_, _-_, _≤_}
+use Rattle.cipher.specs.Fips197.{inv-rounds}
+use Rattle.cipher.specs.Layout.{columns-state}
+use Rattle.cipher.specs.Schedules.{schedule-words}
+use Rattle.cipher.proofs.rounds.decrypt_state.Given as given
+
+abbrev pub Inv-loop-round : given.InvT-loop-round
+Inv-loop-round g l =
+    (inv-rounds (l .round - 1) (schedule-words (l .schedule)) (columns-state (l .t)) ≡ inv-rounds (l .rounds - 1) (schedule-words (l .schedule)) (columns-state (l .entry .t)))
+    × (g .R·Route .tally (l .route) + l .round ≡ g .R·Route .tally (l .entry .route) + l .rounds)
+    × (g .R·Route .name (l .route) ≡ g .R·Route .name (l .entry .route))
+    × (1 ≤ l .round)
