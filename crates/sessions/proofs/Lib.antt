@@ -1,0 +1,9 @@
+pub mod Carrying
+pub mod Chains
+pub mod Examples
+pub mod Histories
+pub mod Numbers
+pub mod Pieces
+pub mod Places
+pub mod SessionLaws
+pub mod Steps
