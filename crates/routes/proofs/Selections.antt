@@ -2,7 +2,7 @@
 use mathlib.Core.Bool.{Bool, true, false, cond}
 use mathlib.Core.Logic.{⊎-elim}
 use mathlib.Core.Path.{_≡_, refl, sym, ap, ap₂, _∙_}
-use Prim.Native.Nat.{ℕ, zero, suc, _+_, _-_, _*_, _%_, _<_}
+use Prim.Native.Nat.{ℕ, zero, suc, _+_, _-_, _*_, _/_, _%_, _<_}
 use native.Mathlib.Nat.{zero-mul, one-mul, mod-eq-of-lt}
 use native.Mathlib.Omega.{arith}
 use lib.Bits.{bitAnd, bitOr, bitXor, and-zero-r, and-mask, or-zero-r, xor-zero-r}
@@ -16,10 +16,12 @@ pub mask-wanted : (byte : ℕ) (wanted : Bool) → byte < 256 → bitAnd byte ((
 mask-wanted byte true h = and-mask byte 8 ∙ mod-eq-of-lt h
 mask-wanted byte false h = and-zero-r byte
 
--- The first of two, or the second where the first is 0.
-pub or-first : (a b : ℕ) → bitOr a (cond (eqb a 0) b 0) ≡ cond (eqb a 0) b a
-or-first zero b = refl
-or-first (suc a) b = ap (λ t. bitOr (suc a) (cond t b 0)) (eqb·suc-zero a) ∙ or-zero-r (suc a) ∙ sym (ap (λ t. cond t b (suc a)) (eqb·suc-zero a))
+-- The first of two, or the second where the first is 0: the carry of first + 255 masks the second.
+pub or-first : (a b : ℕ) → a < 256 → b < 256 → bitOr a (bitAnd b (((a + 255) / 256 + (256 - 1)) % 256)) ≡ cond (eqb a 0) b a
+or-first zero b h l = and-mask b 8 ∙ mod-eq-of-lt l
+or-first (suc a) b h l =
+    ap (λ m. bitOr (suc a) (bitAnd b m)) (let carried : ((suc a + 255) / 256 + (256 - 1)) % 256 ≡ 0 = omega arith in carried)
+    ∙ ap (bitOr (suc a)) (and-zero-r b) ∙ or-zero-r (suc a) ∙ sym (ap (λ t. cond t b (suc a)) (eqb·suc-zero a))
 
 -- A bit times a byte.
 pub bit-keeps : (c n : ℕ) → c < 2 → cond (eqb c 1) n 0 ≡ c * n

@@ -6,7 +6,6 @@ mod formula;
 mod metered;
 mod name;
 mod power;
-mod powers;
 mod refusal;
 mod route;
 mod select;

@@ -12,11 +12,12 @@ pub(crate) fn keep(byte: u8, wanted: bool) -> u8
     byte & 0u8.wrapping_sub(u8::from(wanted))
 }
 
-/// The first byte, or the second where the first is 00.
+/// The first byte, or the second where the first is 00. Worked out by a carry and not by a comparison, which the compiler may turn into a jump.
 pub(crate) fn or_else(first: u8, second: u8) -> u8
     ensures { λ r. ⌜ r ≡ cond (eqb first 0) second first ⌝ }
 {
-    first | keep(second, first == 0)
+    let some = (u16::from(first) + 0xFF) >> 8;
+    first | (second & (some as u8).wrapping_sub(1))
 }
 
 /// Bit `place` of a byte.

@@ -6,7 +6,6 @@ ghost use Rattle.routes.specs.Formulas.{byte-power, by-bits, fourth, eighth};
 ghost use Rattle.routes.specs.Inverting.{Inverts};
 use crate::formula::Formula;
 use crate::metered::Metered;
-use crate::powers::sixteenth;
 use crate::select::bit;
 use crate::select::keep;
 use crate::select::or_else;
@@ -48,7 +47,10 @@ impl SplitFormula {
         ensures inverse { λ r. ⌜ Inverts a (r .inverse) ⌝ }
     {
         let element = Byte::new(a);
-        let a16 = sixteenth(element);
+        let a2 = element.product(element);
+        let a4 = a2.product(a2);
+        let a8 = a4.product(a4);
+        let a16 = a8.product(a8);
         let b = a16.product(element);
         let b4 = Byte::new(sum_by_bits(0xB0, 0xE1, 0x0C, b.to_u8()));
         let b8 = Byte::new(sum_by_bits(0xED, 0x5C, 0x50, b.to_u8()));

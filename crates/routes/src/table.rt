@@ -9,7 +9,6 @@ ghost use Rattle.routes.specs.Formulas.{byte-power, table-index, inverse-table
 ghost use Rattle.routes.specs.Inverting.{Inverts};
 use crate::formula::Formula;
 use crate::metered::Metered;
-use crate::powers::sixteenth;
 use crate::select::bit;
 use crate::select::keep;
 use fields::Byte;
@@ -81,7 +80,10 @@ impl TableFormula {
         ensures inverse { λ r. ⌜ Inverts a (r .inverse) ⌝ }
     {
         let element = Byte::new(a);
-        let a16 = sixteenth(element);
+        let a2 = element.product(element);
+        let a4 = a2.product(a2);
+        let a8 = a4.product(a4);
+        let a16 = a8.product(a8);
         let b = a16.product(element);
         let index = index_of(b.to_u8());
         let entry = entry_at(index);
