@@ -1,7 +1,7 @@
 -- A block turned under a schedule is turned under its key. Assumes nothing.
 use mathlib.Core.Bool.{cond}
 use mathlib.Core.List.{List, [], _∷_, _++_}
-use mathlib.Core.Path.{_≡_, refl, sym, ap, ap₂, _∙_}
+use mathlib.Core.Path.{_≡_, refl, sym, ap, ap₂, _∙_, subst}
 use Prim.Native.Nat.{ℕ, zero, suc, _+_, _-_, _*_, _/_, _<_, _≤_}
 use native.Mathlib.Nat.{not-suc-le-zero}
 use native.Mathlib.Omega.{arith}
@@ -11,7 +11,8 @@ use Rattle.std.specs.Options.{mapped}
 use Rattle.std.specs.declared.option.Option.{Option}
 use Rattle.std.specs.declared.option.Option.the-variants.{Some, None}
 use Rattle.routes.specs.Routes.{cap}
-use Rattle.cipher.specs.Engines.{block-verdict}
+use Rattle.cipher.specs.Engines.{block-verdict, Headroom}
+use Rattle.cipher.specs.Keys.{key-length}
 use Rattle.cipher.specs.Fips197.{Word, word-bytes, zero-word, state, state-bytes, cipher, inv-cipher, key-schedule, round-count, aes, aes-inverse}
 use Rattle.cipher.specs.Layout.{in-a-row}
 use Rattle.cipher.specs.Schedules.{schedule-key, schedule-words, schedule-rounds, turn-verdict}
@@ -61,3 +62,11 @@ module _ (s : KeySchedule) where
 pub held-verdict : (o : Option KeySchedule) (s : KeySchedule) (n t t′ : ℕ) {v : Option (ℕ × ℕ)} → o ≡ Some s → t ≡ t′ → turn-verdict s n t ≡ v → block-verdict (mapped schedule-key o) n t′ ≡ v
 held-verdict o s n t t′ is told verdict =
     ap₂ (λ p u. block-verdict (mapped schedule-key p) n u) is (sym told) ∙ same-verdict s n t ∙ verdict
+
+-- The headroom of an engine that holds a schedule.
+pub held-headroom : (o : Option KeySchedule) (s : KeySchedule) (n t t′ : ℕ) → o ≡ Some s → n ≡ schedule-rounds s → t ≡ t′ → Headroom (mapped schedule-key o) t′ (Some (n, cap - t))
+held-headroom o s n t t′ is rounds told =
+    subst (λ p. Headroom (mapped schedule-key p) t′ (Some (n, cap - t))) (sym is) (
+      ap key-length (key-bytes s) ∙ s .sized,
+      ap₂ (λ (m u : ℕ). Some (m, cap - u)) (rounds ∙ ap round-count (sym (key-quarter s))) told,
+    )

@@ -1,5 +1,5 @@
 -- What an engine holds, and what its calls promise. Assumes nothing.
-use mathlib.Core.Bool.{cond}
+use mathlib.Core.Bool.{true, cond}
 use mathlib.Core.List.{List}
 use mathlib.Core.Path.{_≡_}
 use Prim.Native.Nat.{ℕ, _+_, _-_, _/_}
@@ -13,7 +13,7 @@ use Rattle.std.specs.declared.result.Result.{Result}
 use Rattle.routes.specs.Refusals.{numbers}
 use Rattle.routes.specs.Routes.{cap}
 use Rattle.routes.specs.declared.refusal.Refusal.{Refusal}
-use Rattle.cipher.specs.Keys.{key-rounds, key-cost, key-verdict}
+use Rattle.cipher.specs.Keys.{key-length, key-rounds, key-cost, key-verdict}
 use Rattle.cipher.specs.Schedules.{schedule-key}
 use Rattle.cipher.specs.declared.engine.Engine.{Engine}
 
@@ -27,6 +27,11 @@ abbrev pub block-verdict : Option (List ℕ) → ℕ → ℕ → Option (ℕ × 
 block-verdict None n tally = Some (2, 0)
 block-verdict (Some key) n tally =
     cond (eqb n 16) (cond (leb (tally + key-rounds (length key)) cap) None (Some (6, cap - tally))) (Some (3, n))
+
+-- What an engine tells of its headroom at a tally: the rounds that each block takes under the key set, and the inversions that are left; or none.
+abbrev pub Headroom : Option (List ℕ) → ℕ → Option (ℕ × ℕ) → Type 0
+Headroom None tally r = r ≡ None
+Headroom (Some key) tally r = (key-length (length key) ≡ true) × (r ≡ Some (key-rounds (length key), cap - tally))
 
 module _ {R : Type 0} (tally : R → ℕ) (before after : Engine R) where
   -- A key was set: it is the key now, and the tally rose by its cost; or it was refused, and the engine is as it was.

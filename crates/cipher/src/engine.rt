@@ -3,7 +3,7 @@ ghost use mathlib.Core.Path.{_≡_};
 ghost use Rattle.std.specs.declared.option.Option.the-variants.{None};
 ghost use Prim.Native.Nat.{_≤_};
 ghost use Rattle.routes.specs.Routes.{cap};
-ghost use Rattle.cipher.specs.Engines.{KeySet, Turned};
+ghost use Rattle.cipher.specs.Engines.{engine-key, Headroom, KeySet, Turned};
 ghost use Rattle.cipher.specs.Schedules.{Admitted};
 ghost use Rattle.cipher.specs.Fips197.{aes, aes-inverse};
 use crate::block::decrypt_block;
@@ -65,6 +65,17 @@ impl<R: Route> Engine<R> {
         Ok(())
     }
 
+    /// The headroom for blocks: how many rounds each takes under the key set, and how many inversions are left until the tally is 2^40; or none where
+    /// no key is set.
+    pub fn headroom(&self) -> Option<(u64, u64)>
+        ensures { λ r. ⌜ Headroom (engine-key (now (self .entry))) (R·Route .tally (now (self .entry) .route)) r ⌝ }
+    {
+        let Some(schedule) = &self.schedule else {
+            return None;
+        };
+        Some((schedule.rounds() as u64, CAP - self.route.tally()))
+    }
+
     /// Replaces a block of 16 bytes by its cipher under the key set. Refused, with block and engine as they were: no key set; then a block that is
     /// not 16 bytes; then rounds that would lift the tally above 2^40.
     pub fn encrypt(&mut self, block: &mut [u8]) -> Result<(), Refusal>
@@ -73,6 +84,7 @@ impl<R: Route> Engine<R> {
         let Some(schedule) = &self.schedule else {
             return Err(Refusal::NoKey);
         };
+        // Whatever is refused is refused here, before block and route are touched.
         admit(schedule, block.len(), self.route.tally())?;
         encrypt_block(&mut self.route, schedule, block);
         Ok(())

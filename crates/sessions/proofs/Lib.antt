@@ -1,9 +1,12 @@
 pub mod Carrying
 pub mod Chains
+pub mod Covering
 pub mod Examples
+pub mod Exchanges
 pub mod Histories
 pub mod Numbers
 pub mod Pieces
 pub mod Places
 pub mod SessionLaws
+pub mod SetUps
 pub mod Steps

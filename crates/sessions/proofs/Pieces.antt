@@ -80,7 +80,7 @@ length-of-full x (suc n) full =
     let here = full n (omega arith) in
     omega (arith, length-append (concatenation n x) (x (suc n)))
 
-piece-of-front : (xs ys : List ℕ) (p : ℕ) → 16 * p + 16 ≤ length xs → piece (xs ++ ys) p ≡ piece xs p
+pub piece-of-front : (xs ys : List ℕ) (p : ℕ) → 16 * p + 16 ≤ length xs → piece (xs ++ ys) p ≡ piece xs p
 unfolding piece
 piece-of-front xs ys p h =
     ap (take 16) (drop-append-le (16 * p) xs ys (omega arith)) ∙ take-append-le 16 (drop (16 * p) xs) ys (simp length-drop (omega arith))

@@ -1,6 +1,10 @@
 pub mod Calls
+pub mod Clients
 pub mod Counters
+pub mod Covering
+pub mod Exchanges
 pub mod Figures
 pub mod Histories
 pub mod Laws
 pub mod Places
+pub mod Reading
