@@ -1,3 +1,4 @@
+pub mod FigureLists
 pub mod InPlace
 pub mod JoinFacts
 pub mod Steps

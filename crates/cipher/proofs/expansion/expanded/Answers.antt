@@ -11,7 +11,7 @@ unfolding key_expansion words_cost
 loop-i-init g c =
     let nk = length c.args.key.now / 4 in
     let z : nk - nk ≡ 0 = omega arith in
-    (rw z c.key-first-words.ensures.value, c.key-first-words.ensures.bytes, rw z (sym (add-zero _)), refl, c.key-first-words.ensures.rest)
+    (rw z c.key_first-words.ensures.value, c.key_first-words.ensures.bytes, rw z (sym (add-zero _)), refl, c.key_first-words.ensures.rest)
 
 pub prepared-temp-requires : goal.prepared-temp-requires
 prepared-temp-requires g c =

@@ -19,7 +19,7 @@ loop-i-preserved c =
     let i = c.loop-i.i in
     let inv = c.loop-i.invariant in
     let s = sized (length key) c.requires in
-    let fits : (k : ℕ) → get_or key k 0 ≡ (byte (get_or key k 0)).value = λ k. sym (byte-value _ (c.type-inv.key k).fits) in (
+    let fits : (k : ℕ) → get_or key k 0 ≡ (byte (get_or key k 0)).value = λ k. sym (byte-value _ (c.type_inv.key k).fits) in (
       key_held_more key i arrays inv.0 (unused_room i arrays inv.1 (omega arith)) (omega arith) (four (fits _) (fits _) (fits _) (fits _)),
       unused_more i arrays _ inv.1,
     )

@@ -8,11 +8,11 @@ use Rattle.cipher.proofs.expansion.prepared.Goals.{else-nk-gt6-via-then-nk-gt6+e
 pub returns-then-i-nk-eq0 : goal.returns-then-i-nk-eq0
 returns-then-i-nk-eq0 g c =
     let way = settled c.args.nk c.args.i (word c.args.temp) true _ (eq-eqb _ 0 c.if-i-nk-eq0.true) refl in
-    let boxed = c.sub-word.ensures in
+    let boxed = c.sub_word.ensures in
     record {
       value =
           ap word c.add.ensures ∙ word_again _
-          ∙ ap₂ word_sum (ap word boxed.value ∙ word_again _ ∙ ap sub_word c.rot_word.ensures) (ap word c.round-constant.ensures ∙ word_again _)
+          ∙ ap₂ word_sum (ap word boxed.value ∙ word_again _ ∙ ap sub_word c.rot_word.ensures) (ap word c.round_constant.ensures ∙ word_again _)
           ∙ sym way.0;
       counted = omega (arith, boxed.counted, way.1);
       named = boxed.named;
@@ -22,7 +22,7 @@ pub returns-then-i-nk-eq4 : goal.returns-then-i-nk-eq4
 returns-then-i-nk-eq4 g c =
     let nk = c.args.nk in
     let way = settled nk c.args.i (word c.args.temp) false true (ne_eqb _ 0 c.if-i-nk-eq0.false) (and_from _ _ (lt-ltb 6 nk c.if-nk-gt6.true) (eq-eqb _ 4 c.if-i-nk-eq4.true)) in
-    let boxed = c.sub-word-then-i-nk-eq4.ensures in
+    let boxed = c.sub_word-then-i-nk-eq4.ensures in
     record { value = ap word boxed.value ∙ word_again _ ∙ sym way.0; counted = omega (arith, boxed.counted, way.1); named = boxed.named }
 
 pub returns : goal.returns

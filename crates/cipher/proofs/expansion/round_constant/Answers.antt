@@ -24,4 +24,4 @@ pub returns : goal.returns
 unfolding word_bytes rcon byte x_to
 returns c =
     let e : c.loop-k.-k - 1 ≡ c.args.j - 1 = omega arith in
-    ap (λ n. n ∷ 0 ∷ 0 ∷ 0 ∷ []) (c.to-u8.ensures ∙ ap (λ b. b.value) (c.loop-k.invariant.1 ∙ ap x_to e))
+    ap (λ n. n ∷ 0 ∷ 0 ∷ 0 ∷ []) (c.to_u8.ensures ∙ ap (λ b. b.value) (c.loop-k.invariant.1 ∙ ap x_to e))

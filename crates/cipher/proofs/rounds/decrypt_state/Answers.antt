@@ -10,16 +10,16 @@ loop-round-preserved g c =
     let w = schedule_words c.args.schedule.now in
     let t = columns_state c.loop-round.t in
     let n = c.loop-round.round - 1 in
-    let is = c.one-round-back-next.ensures in (
-      ap (inv_rounds (n - 1) w) (is.value ∙ ap (λ k. inv_mix_columns (add_round_key (inv_sub_bytes (inv_shift_rows t)) k)) c.round-key-in-loop-round.ensures)
+    let is = c.one_round_back-next.ensures in (
+      ap (inv_rounds (n - 1) w) (is.value ∙ ap (λ k. inv_mix_columns (add_round_key (inv_sub_bytes (inv_shift_rows t)) k)) c.round_key-in-loop-round.ensures)
           ∙ sym (inv_round_step n w t (omega arith)) ∙ c.loop-round.invariant.0,
       omega (arith, is.counted, c.loop-round.invariant.1),
       is.named ∙ c.loop-round.invariant.2,
       omega arith,
     )
 
-pub inv-sub-bytes-requires : goal.inv-sub-bytes-requires
-inv-sub-bytes-requires g c = omega (arith, c.loop-round.invariant.1, c.loop-round.invariant.3, c.rounds-rounds.ensures)
+pub inv_sub_bytes-requires : goal.inv_sub_bytes-requires
+inv_sub_bytes-requires g c = omega (arith, c.loop-round.invariant.1, c.loop-round.invariant.3, c.rounds-rounds.ensures)
 
 pub returns : goal.returns
 unfolding inv_cipher inv_rounds
@@ -28,12 +28,12 @@ returns g c =
     let s = columns_state c.args.s in
     let nr = c.rounds-rounds.ensures in
     let done : c.loop-round.round ≡ 1 = omega (arith, c.loop-round.invariant.3) in
-    let begun = c.add-round-key-t.ensures ∙ ap (add_round_key s) (c.round_key.ensures ∙ ap (round_key w) nr) in
+    let begun = c.add_round_key-t.ensures ∙ ap (add_round_key s) (c.round_key.ensures ∙ ap (round_key w) nr) in
     let through = ap (λ n. inv_rounds (n - 1) w (columns_state c.loop-round.t)) (sym done) ∙ c.loop-round.invariant.0 ∙ ap₂ (λ n t. inv_rounds (n - 1) w t) nr begun in
     record {
       value =
           c.add_round_key.ensures
-          ∙ ap₂ add_round_key (c.inv_sub_bytes.ensures.value ∙ ap inv_sub_bytes (c.inv_shift_rows.ensures ∙ ap inv_shift_rows through)) c.round-key-2.ensures;
+          ∙ ap₂ add_round_key (c.inv_sub_bytes.ensures.value ∙ ap inv_sub_bytes (c.inv_shift_rows.ensures ∙ ap inv_shift_rows through)) c.round_key-2.ensures;
       counted = omega (arith, c.inv_sub_bytes.ensures.counted, c.loop-round.invariant.1, done, nr);
       named = c.inv_sub_bytes.ensures.named ∙ c.loop-round.invariant.2;
     }

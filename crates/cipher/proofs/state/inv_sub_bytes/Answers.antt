@@ -7,9 +7,9 @@ use Rattle.cipher.proofs.state.inv_sub_bytes.Goals as goal
 pub returns : goal.returns
 unfolding inv_sub_bytes
 returns g c =
-    let s = c.substitute-back.ensures in
+    let s = c.substitute_back.ensures in
     record {
-      value = c.from-bytes.ensures ∙ state_mapped inv_s_box c.to-bytes-bytes.result _ s.boxed ∙ ap inv_sub_bytes (ap state c.to-bytes-bytes.ensures ∙ state_of_bytes _);
+      value = c.from_bytes.ensures ∙ state_mapped inv_s_box c.to_bytes-bytes.result _ s.boxed ∙ ap inv_sub_bytes (ap state c.to_bytes-bytes.ensures ∙ state_of_bytes _);
       counted = s.counted;
       named = s.named;
     }

@@ -6,4 +6,4 @@ use Rattle.cipher.proofs.state.mix_columns.Goals as goal
 pub returns : goal.returns
 unfolding columns_state mix_columns
 returns c =
-    columns_of _ _ _ _ _ _ _ _ c.mixed-forward.ensures c.mixed-forward-2.ensures c.mixed-forward-3.ensures c.mixed-forward-4.ensures
+    columns_of _ _ _ _ _ _ _ _ c.mixed_forward.ensures c.mixed_forward-2.ensures c.mixed_forward-3.ensures c.mixed_forward-4.ensures

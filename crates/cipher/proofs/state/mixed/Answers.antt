@@ -18,7 +18,7 @@ returns g c =
     let x = c.new-c.ensures in
     let d = c.new-d.ensures in
     four
-    (c.to-u8.ensures ∙ ap (λ y. y.value) c.row.ensures ∙ row-value (byte g.row.P) (byte g.row.Q) (byte g.row.R) (byte g.row.S) a b x d)
-    (c.to-u8-2.ensures ∙ ap (λ y. y.value) c.row-2.ensures ∙ row-value (byte g.row.P) (byte g.row.Q) (byte g.row.R) (byte g.row.S) b x d a)
-    (c.to-u8-3.ensures ∙ ap (λ y. y.value) c.row-3.ensures ∙ row-value (byte g.row.P) (byte g.row.Q) (byte g.row.R) (byte g.row.S) x d a b)
-    (c.to-u8-4.ensures ∙ ap (λ y. y.value) c.row-4.ensures ∙ row-value (byte g.row.P) (byte g.row.Q) (byte g.row.R) (byte g.row.S) d a b x)
+    (c.to_u8.ensures ∙ ap (λ y. y.value) c.row.ensures ∙ row-value (byte g.row.P) (byte g.row.Q) (byte g.row.R) (byte g.row.S) a b x d)
+    (c.to_u8-2.ensures ∙ ap (λ y. y.value) c.row-2.ensures ∙ row-value (byte g.row.P) (byte g.row.Q) (byte g.row.R) (byte g.row.S) b x d a)
+    (c.to_u8-3.ensures ∙ ap (λ y. y.value) c.row-3.ensures ∙ row-value (byte g.row.P) (byte g.row.Q) (byte g.row.R) (byte g.row.S) x d a b)
+    (c.to_u8-4.ensures ∙ ap (λ y. y.value) c.row-4.ensures ∙ row-value (byte g.row.P) (byte g.row.Q) (byte g.row.R) (byte g.row.S) d a b x)

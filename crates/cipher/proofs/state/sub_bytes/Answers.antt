@@ -9,7 +9,7 @@ unfolding sub_bytes
 returns g c =
     let s = c.substitute.ensures in
     record {
-      value = c.from-bytes.ensures ∙ state_mapped s_box c.to-bytes-bytes.result _ s.boxed ∙ ap sub_bytes (ap state c.to-bytes-bytes.ensures ∙ state_of_bytes _);
+      value = c.from_bytes.ensures ∙ state_mapped s_box c.to_bytes-bytes.result _ s.boxed ∙ ap sub_bytes (ap state c.to_bytes-bytes.ensures ∙ state_of_bytes _);
       counted = s.counted;
       named = s.named;
     }

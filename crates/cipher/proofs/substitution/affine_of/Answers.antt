@@ -6,4 +6,4 @@ use Rattle.cipher.proofs.Substitutions.{affine_is}
 use Rattle.cipher.proofs.substitution.affine_of.Goals as goal
 
 pub returns : goal.returns
-returns c = ap (λ n. bit_xor n 99) c.cyclic-product.ensures ∙ affine_is c.args.b (omega arith) ∙ ap affine (sym (byte-value c.args.b (omega arith)))
+returns c = ap (λ n. bit_xor n 99) c.cyclic_product.ensures ∙ affine_is c.args.b (omega arith) ∙ ap affine (sym (byte-value c.args.b (omega arith)))

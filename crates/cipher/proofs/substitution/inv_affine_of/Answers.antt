@@ -6,4 +6,4 @@ use Rattle.cipher.proofs.Substitutions.{inv_affine_is}
 use Rattle.cipher.proofs.substitution.inv_affine_of.Goals as goal
 
 pub returns : goal.returns
-returns c = ap (λ n. bit_xor n 5) c.cyclic-product.ensures ∙ inv_affine_is c.args.b (omega arith) ∙ ap inv_affine (sym (byte-value c.args.b (omega arith)))
+returns c = ap (λ n. bit_xor n 5) c.cyclic_product.ensures ∙ inv_affine_is c.args.b (omega arith) ∙ ap inv_affine (sym (byte-value c.args.b (omega arith)))

@@ -5,7 +5,7 @@ pub returns : goal.returns
 returns g c =
     let asked = c.invert.ensures.asked in
     record {
-      boxed = boxed_back c.args.bytes.now c.inv-affine-all.new.bytes c.invert.new.bytes c.inv-affine-all.ensures (asked.inverts c.requires);
+      boxed = boxed_back c.args.bytes.now c.inv_affine_all.new.bytes c.invert.new.bytes c.inv_affine_all.ensures (asked.inverts c.requires);
       counted = asked.counts c.requires;
       named = c.invert.ensures.named;
     }

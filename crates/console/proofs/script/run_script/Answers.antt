@@ -1,8 +1,8 @@
 use Rattle.sessions.proofs.SessionLaws.{session_laws}
 use Rattle.console.proofs.script.run_script.Goals as goal
 
-pub returns-in-err-put-away : goal.returns-in-err-put-away
-returns-in-err-put-away g c = session_laws
+pub returns-in-err-put_away : goal.returns-in-err-put_away
+returns-in-err-put_away g c = session_laws
 
 pub returns-in-err-eprintln : goal.returns-in-err-eprintln
 returns-in-err-eprintln g c = session_laws

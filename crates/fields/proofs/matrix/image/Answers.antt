@@ -10,8 +10,8 @@ pub loop-i-init : goal.loop-i-init
 unfolding first_rows
 loop-i-init c = refl
 
-pub overflow-add-image : goal.overflow-add-image
-overflow-add-image c = subst (λ n. Fits w8 n) (sym (turn c)) (record { fits = rows_fit c.loop-i.i c.args.rows.now c.args.byte c.loop-i-test.true })
+pub overflow_add-image : goal.overflow_add-image
+overflow_add-image c = subst (λ n. Fits w8 n) (sym (turn c)) (record { fits = rows_fit c.loop-i.i c.args.rows.now c.args.byte c.loop-i-test.true })
 
 pub loop-i-preserved : goal.loop-i-preserved
 loop-i-preserved c = turn c

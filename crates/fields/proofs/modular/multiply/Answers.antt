@@ -8,8 +8,8 @@ pub loop-i-init : goal.loop-i-init
 unfolding shifted summed
 loop-i-init g c = (refl, refl)
 
-pub times-x-shifted-requires : goal.times-x-shifted-requires
-times-x-shifted-requires g c = record {
+pub times_x-shifted-requires : goal.times_x-shifted-requires
+times_x-shifted-requires g c = record {
   degree = c.requires.degree;
   positive = c.requires.positive;
   few = c.requires.few;
@@ -25,7 +25,7 @@ loop-i-preserved g c =
       ap₂ bit_xor c.loop-i.invariant.0
           (c.keep-product.ensures ∙ ap₂ ◌*◌ (and_mask (c.args.b / 2 ^ i) 1) c.loop-i.invariant.1)
           ∙ sym (summed_more k p i c.args.a c.args.b),
-      c.times-x-shifted.ensures ∙ ap (times_x k p) c.loop-i.invariant.1 ∙ sym (shifted_more k p i c.args.a),
+      c.times_x-shifted.ensures ∙ ap (times_x k p) c.loop-i.invariant.1 ∙ sym (shifted_more k p i c.args.a),
     )
 
 pub returns : goal.returns

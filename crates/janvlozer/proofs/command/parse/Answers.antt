@@ -42,21 +42,21 @@ module _ (r : Result Command Misuse) where
 pub returns-in-1 : goal.returns-in-1
 returns-in-1 c =
     one_word c.alone.result _ c.index.result.now (sym c.args.words.now.ok.0 ∙ sym c.len.ensures ∙ c.in-1.is) c.index.ensures
-    (subst (λ word. Alone word c.alone.result) c.as-str.ensures.value c.alone.ensures)
+    (subst (λ word. Alone word c.alone.result) c.as_str.ensures.value c.alone.ensures)
 
 pub returns-in-2 : goal.returns-in-2
 returns-in-2 c =
-    two_words c.with-byte.result _ c.index-in-2.result.now c.index-in-2-2.result.now
+    two_words c.with_byte.result _ c.index-in-2.result.now c.index-in-2-2.result.now
     (sym c.args.words.now.ok.0 ∙ sym c.len.ensures ∙ c.in-2.is) c.index-in-2.ensures c.index-in-2-2.ensures
-    (subst₂ (λ word text. After word text c.with-byte.result) c.as-str-in-2.ensures.value c.as-str-in-2-2.ensures.value c.with-byte.ensures)
+    (subst₂ (λ word text. After word text c.with_byte.result) c.as_str-in-2.ensures.value c.as_str-in-2-2.ensures.value c.with_byte.ensures)
 
 pub returns-in-3 : goal.returns-in-3
 returns-in-3 c =
     three_words c.turn.result _ c.index-in-3.result.now (sym c.args.words.now.ok.0 ∙ sym c.len.ensures ∙ c.in-3.is) c.index-in-3.ensures
-    (subst (λ word. Turns word Table c.turn.result) c.as-str-in-3.ensures.value c.turn.ensures)
+    (subst (λ word. Turns word Table c.turn.result) c.as_str-in-3.ensures.value c.turn.ensures)
 
 pub returns-in-5 : goal.returns-in-5
 returns-in-5 c =
-    five_words c.turn-on.result _ c.index-in-5.result.now c.index-in-5-2.result.now c.index-in-5-3.result.now
+    five_words c.turn_on.result _ c.index-in-5.result.now c.index-in-5-2.result.now c.index-in-5-3.result.now
     (sym c.args.words.now.ok.0 ∙ sym c.len.ensures ∙ c.in-5.is) c.index-in-5.ensures c.index-in-5-2.ensures c.index-in-5-3.ensures
-    (subst₃ (λ word flag name. TurnsOn word flag name c.turn-on.result) c.as-str-in-5.ensures.value c.as-str-in-5-2.ensures.value c.as-str-in-5-3.ensures.value c.turn-on.ensures)
+    (subst₃ (λ word flag name. TurnsOn word flag name c.turn_on.result) c.as_str-in-5.ensures.value c.as_str-in-5-2.ensures.value c.as_str-in-5-3.ensures.value c.turn_on.ensures)

@@ -9,9 +9,9 @@ pub returns : goal.returns
 returns g c =
     let m = g.F.ByteMap in
     let joined = g.met.F.ByteMap.joined in
-    let went = c.field-steps.ensures in
+    let went = c.field_steps.ensures in
     let a = c.args.a in
-    let back = out_inverse g.met.F.Field.laws joined (byte a) ∙ sym (inverts_is a c.field-steps.result.inverse went.inverse) in
+    let back = out_inverse g.met.F.Field.laws joined (byte a) ∙ sym (inverts_is a c.field_steps.result.inverse went.inverse) in
     record {
       image = went.image;
       inverted = went.inverted ∙ ap m.bits (sym (joined.into_out (g.F.Field.inverse (m.into (byte a)))) ∙ ap m.into back);

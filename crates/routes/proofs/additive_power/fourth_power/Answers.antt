@@ -5,4 +5,4 @@ use Rattle.routes.proofs.AdditivePowers.{fourth-by_columns}
 use Rattle.routes.proofs.additive_power.fourth_power.Goals as goal
 
 pub returns : goal.returns
-returns c = c.new.ensures ∙ ap byte (c.sum-of-columns.ensures ∙ ap (by_columns _) c.to-u8.ensures) ∙ fourth-by_columns c.args.a
+returns c = c.new.ensures ∙ ap byte (c.sum_of_columns.ensures ∙ ap (by_columns _) c.to_u8.ensures) ∙ fourth-by_columns c.args.a

@@ -17,11 +17,11 @@ pub returns : goal.returns
 unfolding nibble
 returns c =
     let a = c.args.a in
-    let r = c.sum-of-columns.result in
-    let n = c.sum-of-columns-image.result in
-    let image = c.sum-of-columns-image.ensures ∙ ap (by_columns nibble_columns) (sym (byte-value a (omega arith))) in
+    let r = c.sum_of_columns.result in
+    let n = c.sum_of_columns-image.result in
+    let image = c.sum_of_columns-image.ensures ∙ ap (by_columns nibble_columns) (sym (byte-value a (omega arith))) in
     let element = pair_path c.high.ensures (c.low.ensures ∙ nibble_path (nibble n) _ (sym (mod-mod n 16))) ∙ ap make_nibbles image in
     let inverted = c.inverse-inverse.ensures ∙ ap (pair_inverse (nibble 9) nibble_sum nibble_product nibble_inverse) element in
     let told = c.bits.ensures ∙ ap read_nibbles inverted in
-    let back = ap byte (c.sum-of-columns.ensures ∙ ap (by_columns nibble_back) told) ∙ out_inverse (pair_laws nibble_laws) nibbles_join (byte a) in
+    let back = ap byte (c.sum_of_columns.ensures ∙ ap (by_columns nibble_back) told) ∙ out_inverse (pair_laws nibble_laws) nibbles_join (byte a) in
     subst (Inverts a) (sym (sym (byte-value r (omega arith)) ∙ ap (λ b. b.value) back)) (inverse_inverts a (omega arith))

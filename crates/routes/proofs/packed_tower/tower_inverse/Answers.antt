@@ -16,10 +16,10 @@ use Rattle.routes.proofs.packed_tower.tower_inverse.Goals as goal
 pub returns : goal.returns
 returns c =
     let a = c.args.a in
-    let r = c.sum-of-columns.result in
+    let r = c.sum_of_columns.result in
     let inverse = c.inverse8-inverse.result in
-    let image = c.sum-of-columns-image.ensures ∙ ap (by_columns tower_columns) (sym (byte-value a (omega arith))) in
+    let image = c.sum_of_columns-image.ensures ∙ ap (by_columns tower_columns) (sym (byte-value a (omega arith))) in
     let held = c.inverse8-inverse.ensures ∙ ap (λ n. tower_inverse (make_tower n)) image in
     let told = sym (tower_readable.read_made inverse (omega arith)) ∙ ap read_tower held in
-    let back = ap byte (c.sum-of-columns.ensures ∙ ap (by_columns tower_back) told) ∙ out_inverse (pair_laws (pair_laws (pair_laws bit_laws))) tower_joins (byte a) in
+    let back = ap byte (c.sum_of_columns.ensures ∙ ap (by_columns tower_back) told) ∙ out_inverse (pair_laws (pair_laws (pair_laws bit_laws))) tower_joins (byte a) in
     subst (Inverts a) (sym (sym (byte-value r (omega arith)) ∙ ap (λ b. b.value) back)) (inverse_inverts a (omega arith))

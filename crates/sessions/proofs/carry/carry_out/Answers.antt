@@ -19,12 +19,12 @@ loop-call-preserved g c =
     let before = c.deref-mut-call-items.result.now in
     let now' = c.loop-call.call-items in
     let i = c.loop-call.call-index in
-    let call' = c.carry-out-one-answer.new.call in
-    let after = held_by g.R.Route.tally c.carry-out-one-answer.new.engine c.carry-out-one-answer.new.session in (
-      carried_next before now' i (omega arith) c.loop-call.auto.call-items c.loop-call.invariant.1 {h'' = after} c.call-item.result call' {a = c.carry-out-one-answer.result} c.push-reserved.ensures.items c.loop-call.invariant.0 c.carry-out-one-answer.ensures,
+    let call' = c.carry_out_one-answer.new.call in
+    let after = held_by g.R.Route.tally c.carry_out_one-answer.new.engine c.carry_out_one-answer.new.session in (
+      carried_next before now' i (omega arith) c.loop-call.auto.call-items c.loop-call.invariant.1 {h'' = after} c.call-item.result call' {a = c.carry_out_one-answer.result} c.push_reserved.ensures.items c.loop-call.invariant.0 c.carry_out_one-answer.ensures,
       rest_next before now' i (omega arith) c.loop-call.auto.call-items c.loop-call.invariant.1 call',
       omega arith,
-      c.push-reserved.ensures.capacity ∙ c.loop-call.invariant.3,
+      c.push_reserved.ensures.capacity ∙ c.loop-call.invariant.3,
     )
 
 pub returns : goal.returns

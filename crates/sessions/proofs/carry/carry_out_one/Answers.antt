@@ -4,11 +4,11 @@ use Rattle.sessions.proofs.carry.carry_out_one.Goals as goal
 
 pub returns-in-Ok : goal.returns-in-Ok
 returns-in-Ok g c =
-    carried_cover _ c.in-Cover.run' c.as-mut-slice.result.now c.cover.new.run c.in-Cover.is c.as-mut-slice.ensures.value c.as-mut-slice.ensures.len c.cover.auto.run c.in-Ok.ensures.promised
+    carried_cover _ c.in-Cover.run' c.as_mut_slice.result.now c.cover.new.run c.in-Cover.is c.as_mut_slice.ensures.value c.as_mut_slice.ensures.len c.cover.auto.run c.in-Ok.ensures.promised
 
 pub returns-in-Err : goal.returns-in-Err
 returns-in-Err g c =
-    carried_cover _ c.in-Cover.run' c.as-mut-slice.result.now c.cover.new.run c.in-Cover.is c.as-mut-slice.ensures.value c.as-mut-slice.ensures.len c.cover.auto.run c.in-Err.ensures.promised
+    carried_cover _ c.in-Cover.run' c.as_mut_slice.result.now c.cover.new.run c.in-Cover.is c.as_mut_slice.ensures.value c.as_mut_slice.ensures.len c.cover.auto.run c.in-Err.ensures.promised
 
 pub returns-in-Ok-skip : goal.returns-in-Ok-skip
 returns-in-Ok-skip g c = carried_as_is _ _ c.in-Skip.is (c.in-Ok-skip.ensures _ _)

@@ -5,4 +5,4 @@ use Rattle.sessions.proofs.stream.counter_block.Goals as goal
 
 pub returns : goal.returns
 unfolding counter_block four_bytes places_from
-returns c = ap₂ (λ xs ys. xs ++ places_from 4 0 ys) (places_are 12 0 c.args.prefix.now c.told-prefix) c.to-be-bytes.ensures
+returns c = ap₂ (λ xs ys. xs ++ places_from 4 0 ys) (places_are 12 0 c.args.prefix.now c.told-prefix) c.to_be_bytes.ensures

@@ -5,8 +5,8 @@ use Rattle.sessions.specs.Histories.{encrypted}
 use Rattle.sessions.proofs.Covering.{added_more, rest_after, rest_from, spent_none, spent_more, still_ready}
 use Rattle.sessions.proofs.stream.cover_run.Goals as goal
 
-pub cover-piece-requires : goal.cover-piece-requires
-cover-piece-requires g c =
+pub cover_piece-requires : goal.cover_piece-requires
+cover_piece-requires g c =
     record {
       ready = still_ready g.R.Route.tally c.loop-p.invariant.0 c.requires.ready c.loop-p-test.true;
       below = omega arith;
@@ -21,11 +21,11 @@ loop-p-preserved g c =
     let xs = c.loop-p.run in
     let p = c.loop-p.p in
     let end = c.min-end.result in
-    let ys = c.cover-piece.new.part in
+    let ys = c.cover_piece.new.part in
     let starts : 16 * p ≤ length xs = omega arith in
-    let fits : length ys ≡ end - 16 * p = omega (arith, simp (length-take, length-drop) at c.cover-piece.auto.part) in
-    let here = c.cover-piece.ensures.added ∙ ap (λ key. plus (take (end - 16 * p) (drop (16 * p) xs)) (encrypted key (counter_block c.args.prefix.now (c.args.first + p)))) c.loop-p.invariant.0.same_key in (
-      spent_more g.R.Route.tally c.loop-p.invariant.0 c.cover-piece.ensures.spent,
+    let fits : length ys ≡ end - 16 * p = omega (arith, simp (length-take, length-drop) at c.cover_piece.auto.part) in
+    let here = c.cover_piece.ensures.added ∙ ap (λ key. plus (take (end - 16 * p) (drop (16 * p) xs)) (encrypted key (counter_block c.args.prefix.now (c.args.first + p)))) c.loop-p.invariant.0.same_key in (
+      spent_more g.R.Route.tally c.loop-p.invariant.0 c.cover_piece.ensures.spent,
       added_more xs ys p end starts c.min-end.ensures fits c.args.run.now (key_of c.args.engine.now) c.args.prefix.now c.args.first c.loop-p.invariant.1 c.loop-p.invariant.2 here,
       rest_after xs ys p end starts c.min-end.ensures fits ∙ rest_from xs c.args.run.now p c.loop-p.invariant.2,
     )

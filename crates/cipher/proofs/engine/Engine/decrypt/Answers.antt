@@ -17,10 +17,10 @@ returns g c =
     let s = c.in-Some.schedule in
     let held = c.in-Some.is in (
       held_verdict c.args.self.now.schedule s _ _ _ held c.tally.ensures c.in-ok-admit.ensures,
-      subst (λ o. TurnedBy g.R.Route.tally c.args.self.now record { route = c.decrypt-block.new.route; schedule = c.args.self.now.schedule } aes_inverse o c.args.block.now c.decrypt-block.new.block)
+      subst (λ o. TurnedBy g.R.Route.tally c.args.self.now record { route = c.decrypt_block.new.route; schedule = c.args.self.now.schedule } aes_inverse o c.args.block.now c.decrypt_block.new.block)
           (sym (ap (option_map schedule_key) held)) (
-            c.decrypt-block.ensures.value ∙ decrypts s c.args.block.now,
+            c.decrypt_block.ensures.value ∙ decrypts s c.args.block.now,
             ap (option_map schedule_key) held,
-            c.decrypt-block.ensures.counted ∙ ap (λ k. g.R.Route.tally c.args.self.now.route + round_count k) (sym (key_quarter s)),
+            c.decrypt_block.ensures.counted ∙ ap (λ k. g.R.Route.tally c.args.self.now.route + round_count k) (sym (key_quarter s)),
           ),
     )
