@@ -1,5 +1,7 @@
 //! What a C program calls: covering a run and inverting sixteen bytes, on a route that is named by its number. No call keeps anything: what a
 //! session needs is passed, and what is to be kept is left in a reply.
+
+#![tactic(auto)]
 mod cover;
 mod cover_call;
 mod invert;

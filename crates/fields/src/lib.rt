@@ -3,6 +3,8 @@
 //! `Field` is what a field offers: zero, one, sum, product, inverse, a test for equality, and one named element, its marker. `Bit`, `Nibble`
 //! and `Byte` are fields of 2, 16 and 256 elements; `Pair<F>` is the quadratic extension of any field F, a field again. `ByteMap` joins a field
 //! to the byte field: `NibblePair` and `BitTower` are two fields of 256 elements that are joined so, and inverting in either is inverting bytes.
+
+#![tactic(auto)]
 mod bit;
 mod bit_tower;
 mod byte;

@@ -1,4 +1,6 @@
 //! The program: how a byte is inverted in three fields and by five routes, step by step.
+
+#![tactic(auto)]
 mod asking;
 mod command;
 mod hex;

@@ -4,6 +4,8 @@
 //! it back where the other end covers it again at the same numbers; `skip` leaves numbers out; `remaining` tells how many are left; `close` ends the
 //! session and tells where the next one under its prefix has to open. A session is neither copied nor let go. `exchange` carries a list of calls out
 //! at a transmitter and feeds what it left to a gateway; its contract says what the laws come to for these two ends.
+
+#![tactic(auto)]
 ghost use Rattle.std.specs.Prelude.{◌≡◌, true};
 ghost use Rattle.sessions.specs.Laws.{SessionLaws};
 

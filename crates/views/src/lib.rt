@@ -1,5 +1,7 @@
 //! What the program shows of fields, routes and blocks: a byte on its way through three fields, a route asked once, all routes compared at every byte,
 //! a block turned on a route.
+
+#![tactic(auto)]
 mod asking;
 mod inversion;
 mod survey;

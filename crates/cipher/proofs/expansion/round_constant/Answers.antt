@@ -15,7 +15,7 @@ loop-k-init c = (omega arith, c.new-x.ensures)
 pub loop-k-preserved : goal.loop-k-preserved
 unfolding power x_to
 loop-k-preserved c =
-    let e : suc (c.loop-k.-k - 1) ≡ c.loop-k.-k + 1 - 1 = omega arith in (
+    let e : suc (c.loop-k._k - 1) ≡ c.loop-k._k + 1 - 1 = omega arith in (
       omega arith,
       c.product-x.ensures ∙ ap₂ byte_product c.new.ensures c.loop-k.invariant.1 ∙ ap x_to e,
     )
@@ -23,5 +23,5 @@ loop-k-preserved c =
 pub returns : goal.returns
 unfolding word_bytes rcon byte x_to
 returns c =
-    let e : c.loop-k.-k - 1 ≡ c.args.j - 1 = omega arith in
+    let e : c.loop-k._k - 1 ≡ c.args.j - 1 = omega arith in
     ap (λ n. n ∷ 0 ∷ 0 ∷ 0 ∷ []) (c.to_u8.ensures ∙ ap (λ b. b.value) (c.loop-k.invariant.1 ∙ ap x_to e))

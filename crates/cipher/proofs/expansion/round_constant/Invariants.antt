@@ -4,4 +4,4 @@ use Rattle.fields.specs.Powers.{power}
 use Rattle.cipher.proofs.expansion.round_constant.Given as goal
 
 abbrev pub invariant-loop-k : goal.invariant-loop-k
-invariant-loop-k l = (l.-k - 1 ≤ l.j - 1) × (l.x ≡ power byte_product (byte 1) (l.-k - 1) (byte 2))
+invariant-loop-k l = (l._k - 1 ≤ l.j - 1) × (l.x ≡ power byte_product (byte 1) (l._k - 1) (byte 2))

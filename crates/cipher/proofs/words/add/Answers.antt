@@ -7,5 +7,5 @@ use Rattle.cipher.proofs.words.add.Goals as goal
 pub returns : goal.returns
 unfolding word_at word_bytes word_sum
 returns c =
-    four (sym (sum-value _ _ c.element-fits.ranges c.element-fits2.ranges)) (sym (sum-value _ _ c.element-fits3.ranges c.element-fits4.ranges))
-    (sym (sum-value _ _ c.element-fits5.ranges c.element-fits6.ranges)) (sym (sum-value _ _ c.element-fits7.ranges c.element-fits8.ranges))
+    four (sym (sum-value _ _ c.element_fits.fits c.element_fits2.fits)) (sym (sum-value _ _ c.element_fits3.fits c.element_fits4.fits))
+    (sym (sum-value _ _ c.element_fits5.fits c.element_fits6.fits)) (sym (sum-value _ _ c.element_fits7.fits c.element_fits8.fits))

@@ -11,10 +11,10 @@ more a e = ap (λ zs. zs ++ (a ∷ [])) e
 
 pub returns : goal.returns
 returns c =
-    let run = c.in-ok-run.run' in
-    let first = c.in-ok-push.ensures.items ∙ more Remaining c.new-calls.ensures.items in
-    let second = c.in-ok-push-2.ensures.items ∙ more (Cover run) first in
-    let third = c.in-ok-push-3.ensures.items ∙ more (Skip 6) second in
-    let fourth = c.in-ok-push-4.ensures.items ∙ more (Skip 4294967296) third in
-    ap (map call_in) (c.in-ok-push-5.ensures.items ∙ more Remaining fourth)
-    ∙ ap (λ xs. remaining ∷ cover xs ∷ skip 6 ∷ skip 4294967296 ∷ remaining ∷ []) c.in-ok-run.ensures.items
+    let run = c.in_ok-run.run' in
+    let first = c.in_ok-push.ensures.items ∙ more Remaining c.new-calls.ensures.items in
+    let second = c.in_ok-push-2.ensures.items ∙ more (Cover run) first in
+    let third = c.in_ok-push-3.ensures.items ∙ more (Skip 6) second in
+    let fourth = c.in_ok-push-4.ensures.items ∙ more (Skip 4294967296) third in
+    ap (map call_in) (c.in_ok-push-5.ensures.items ∙ more Remaining fourth)
+    ∙ ap (λ xs. remaining ∷ cover xs ∷ skip 6 ∷ skip 4294967296 ∷ remaining ∷ []) c.in_ok-run.ensures.items

@@ -12,7 +12,7 @@ pub loop-i-preserved : goal.loop-i-preserved
 loop-i-preserved c =
     c.loop-i.invariant
     ∙ spelt_more c.args.characters.now (vec_items c.loop-i.all) (2 * c.loop-i.i) c.in-Some.byte (omega (arith, c.loop-i-test.true)) c.in-Some.ensures
-    ∙ ap₂ (λ all n. after_all all (spelt (drop n c.args.characters.now))) (sym c.in-ok-push.ensures.items) (omega arith)
+    ∙ ap₂ (λ all n. after_all all (spelt (drop n c.args.characters.now))) (sym c.in_ok-push.ensures.items) (omega arith)
 
 pub returns-then-characters-ne0 : goal.returns-then-characters-ne0
 returns-then-characters-ne0 c =

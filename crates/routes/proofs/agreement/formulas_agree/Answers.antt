@@ -17,7 +17,7 @@ returns c =
           and_from _ _
           (and_from _ _
           (and_from _ _ (like c.inverse-split.result p.type_inv c.inverse-split.type_inv p.ensures c.inverse-split.ensures)
-          (like c.inverse_table.result p.type_inv c.inverse_table.type_inv p.ensures c.inverse_table.ensures))
+          (like c.inverse-table.result p.type_inv c.inverse-table.type_inv p.ensures c.inverse-table.ensures))
           (like c.inverse-pair.result p.type_inv c.inverse-pair.type_inv p.ensures c.inverse-pair.ensures))
           (like c.inverse-tower.result p.type_inv c.inverse-tower.type_inv p.ensures c.inverse-tower.ensures);
       determined = determined;
