@@ -1,5 +1,5 @@
 -- Shifts and masks of numbers carry exclusive or to exclusive or. Assumes nothing.
-use Rattle.std.proofs.Common.{◌≡◌, ℕ, zero, suc, ◌+◌, ◌*◌, ◌/◌, ◌%◌, ◌^◌, ◌<◌, Bool, T, eqb, sym, refl, ap, ◌∙◌, ap₂, add-zero, mod-lt, arith, eqb→eq, pow_pos}
+use Rattle.std.proofs.Common.{◌≡◌, ℕ, ◌+◌, ◌*◌, ◌/◌, ◌%◌, ◌^◌, ◌<◌, Bool, T, eqb, sym, refl, ap, ◌∙◌, ap₂, add-zero, mod-lt, arith, eqb→eq, pow_pos}
 use lib.Arith.{bin_ind}
 use lib.Bits.{bit_xor, bit_and, and_zero_l, and_shr, and_mod, xor_zero_l, xor_shr, xor_mod, xor_block}
 use lib.Pow.{split}

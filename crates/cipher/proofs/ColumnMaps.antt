@@ -1,8 +1,8 @@
 -- MIXCOLUMNS at a column as one additive map of numbers of 32 bits. Assumes nothing.
-use Rattle.std.proofs.Common.{◌≡◌, ℕ, zero, suc, ◌+◌, ◌*◌, ◌/◌, ◌%◌, ◌^◌, ◌<◌, Bool, T, eqb, List, [], ◌∷◌, get_or, sym, refl, ap, ◌∙◌, ap₂, arith, eqb→eq}
+use Rattle.std.proofs.Common.{◌≡◌, ℕ, ◌+◌, ◌*◌, ◌/◌, ◌%◌, ◌^◌, ◌<◌, Bool, T, eqb, List, [], ◌∷◌, get_or, sym, ap, ◌∙◌, arith, eqb→eq}
 use native.Mathlib.Nat.{mod-mod}
-use lib.Bits.{bit_xor, bit_and, xor_mod}
-use Rattle.fields.specs.Bytes.{byte, byte_sum, byte_product}
+use lib.Bits.{bit_xor, xor_mod}
+use Rattle.fields.specs.Bytes.{byte, byte_sum}
 use Rattle.fields.specs.Laws.{FieldLaws}
 use Rattle.fields.specs.Polynomials.{coefficient, carryless, remainder, product_modulo}
 use Rattle.fields.specs.declared.byte.Byte.{Byte}

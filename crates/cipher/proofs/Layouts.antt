@@ -1,9 +1,9 @@
 -- What arrays of bytes hold once functions have made them. Assumes nothing.
-use Rattle.std.proofs.Common.{◌≡◌, ℕ, ◌<◌, List, [], ◌∷◌, get_or, sym, refl, ap, ◌∙◌, lit<}
+use Rattle.std.proofs.Common.{◌≡◌, ℕ, ◌<◌, List, [], ◌∷◌, get_or, ap, ◌∙◌, lit<}
 use Rattle.fields.specs.Bytes.{byte}
 use Rattle.fields.specs.declared.byte.Byte.{Byte}
 use Rattle.fields.specs.WordLaws.{byte_of-value}
-use Rattle.cipher.specs.Fips197.{Word, State, word, word_at, word_of, state_of, word_bytes, state, each_byte, each_column}
+use Rattle.cipher.specs.Fips197.{Word, word, word_at, word_of, state_of, word_bytes, state, each_byte, each_column}
 use Rattle.cipher.specs.Layout.{columns_state}
 use Rattle.cipher.proofs.Expansions.{word_again}
 

@@ -1,5 +1,5 @@
 -- The affine maps as products modulo x^8 + 1, and what a route's answers make of the S-box. Assumes nothing.
-use Rattle.std.proofs.Common.{◌≡◌, ℕ, ◌<◌, Bool, T, eqb, ltb, List, get_or, sym, refl, ap, ◌∙◌, subst, eqb→eq, ltb→lt}
+use Rattle.std.proofs.Common.{◌≡◌, ℕ, ◌<◌, Bool, T, eqb, List, get_or, sym, ap, ◌∙◌, eqb→eq}
 use lib.Bits.{bit_xor}
 use Rattle.fields.specs.Bytes.{byte, byte_inverse}
 use Rattle.fields.specs.Polynomials.{coefficient, carryless, remainder, product_modulo}
@@ -8,7 +8,7 @@ use Rattle.fields.specs.WordLaws.{byte-value, value_lt}
 use Rattle.routes.specs.Inverting.{AllInvert}
 use Rattle.routes.proofs.Inversions.{inverts_is}
 use Rattle.cipher.specs.Fips197.{from_bits, affine, inv_affine, s_box, inv_s_box}
-use Rattle.cipher.proofs.Boxes.{affine_lt, inv_affine_lt}
+use Rattle.cipher.proofs.Boxes.{affine_lt}
 
 -- ---- the affine maps
 

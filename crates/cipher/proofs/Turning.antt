@@ -1,10 +1,10 @@
 -- A block turned under a schedule is turned under its key. Assumes nothing.
-use Rattle.std.proofs.Common.{◌≡◌, ℕ, zero, suc, ◌+◌, ◌-◌, ◌*◌, ◌/◌, ◌<◌, ◌≤◌, cond, eqb, leb, List, [], ◌∷◌, ◌++◌, length, get_or, take, Some, None, Option, sym, refl, ap, ◌∙◌, subst, ap₂, not-suc-le-zero, arith, length-append}
+use Rattle.std.proofs.Common.{◌≡◌, ℕ, zero, suc, ◌+◌, ◌-◌, ◌*◌, ◌/◌, ◌<◌, ◌≤◌, cond, eqb, leb, List, [], ◌∷◌, length, get_or, take, Some, None, Option, sym, refl, ap, ◌∙◌, subst, ap₂, not-suc-le-zero, arith, length-append}
 use Rattle.std.specs.Option.{option_map}
 use Rattle.routes.specs.Routes.{cap}
 use Rattle.cipher.specs.Engines.{block_verdict, Headroom}
 use Rattle.cipher.specs.Keys.{key_length}
-use Rattle.cipher.specs.Fips197.{Word, word_bytes, zero_word, state, state_bytes, cipher, inv_cipher, key_schedule, round_count, aes, aes_inverse}
+use Rattle.cipher.specs.Fips197.{Word, word_bytes, state, state_bytes, cipher, inv_cipher, key_schedule, round_count, aes, aes_inverse}
 use Rattle.cipher.specs.Layout.{in_a_row}
 use Rattle.cipher.specs.Schedules.{schedule_key, schedule_words, schedule_rounds, turn_verdict}
 use Rattle.cipher.specs.declared.schedule.KeySchedule.{KeySchedule}

@@ -1,5 +1,5 @@
 -- Keys: which lengths there are, what setting one costs in route calls, and when it is refused. Assumes nothing.
-use Rattle.std.specs.Prelude.{◌≡◌, ℕ, zero, suc, ◌+◌, ◌-◌, ◌*◌, ◌/◌, ◌%◌, ◌≤◌, Bool, cond, ◌&&◌, ◌||◌, List, [], ◌∷◌, length, take, replicate, Some, None, Option, ◌==◌, nat_le, nat_lt}
+use Rattle.std.specs.Prelude.{◌≡◌, ℕ, zero, suc, ◌+◌, ◌-◌, ◌*◌, ◌/◌, ◌%◌, Bool, cond, ◌&&◌, ◌||◌, List, [], ◌∷◌, take, replicate, Some, None, Option, ◌==◌, nat_le, nat_lt}
 use Rattle.routes.specs.Routes.{cap}
 use Rattle.cipher.specs.Fips197.{key_schedule, round_count}
 use Rattle.cipher.specs.Layout.{word_lists, in_a_row}

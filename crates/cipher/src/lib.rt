@@ -5,6 +5,7 @@
 //! SUBBYTES step and each substituted word of the key. Whatever the route, the block is that of FIPS 197, since a route is proved to invert.
 
 #![tactic(auto)]
+
 mod block;
 mod engine;
 mod expansion;

@@ -1,5 +1,5 @@
 -- What a map that joins a field to the byte field also carries: zero, one and inverses. Assumes nothing.
-use Rattle.std.proofs.Common.{◌≡◌, Bool, sym, refl, ap, ◌∙◌}
+use Rattle.std.proofs.Common.{◌≡◌, Bool, sym, ap, ◌∙◌}
 use Rattle.fields.specs.Bytes.{byte, byte_product, byte_inverse}
 use Rattle.fields.specs.Laws.{FieldLaws}
 use Rattle.fields.specs.Towers.{JoinsBytes}

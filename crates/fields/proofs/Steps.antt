@@ -1,8 +1,7 @@
 -- What the steps of the executable product come to. Assumes nothing.
-use Rattle.std.proofs.Common.{◌≡◌, ℕ, zero, suc, ◌+◌, ◌-◌, ◌*◌, ◌/◌, ◌%◌, ◌^◌, ◌<◌, ◌≤◌, sym, refl, ap, ◌∙◌, subst, ap₂, subst₂, lt_of_lt_of_le, not-suc-le-zero, mod-eq_of_lt, one-mul, zero-mul, sub-one, one-add, arith, pow_mono, shr_lt}
-use native.Mathlib.Nat.{zero-mod}
+use Rattle.std.proofs.Common.{◌≡◌, ℕ, suc, ◌+◌, ◌-◌, ◌*◌, ◌/◌, ◌%◌, ◌^◌, ◌<◌, ◌≤◌, sym, ap, ◌∙◌, subst, lt_of_lt_of_le, mod-eq_of_lt, one-mul, zero-mul, arith, pow_mono, shr_lt}
 use lib.Bits.{bit_xor, bit_and, and_zero_r, and_mask, xor_mod}
-use Rattle.fields.specs.Polynomials.{coefficient, product_modulo, times_x, Degree}
+use Rattle.fields.specs.Polynomials.{coefficient, times_x, Degree}
 use Rattle.fields.specs.Additive.{two_ways}
 use Rattle.fields.specs.Division.{coefficient_double, times_x_lt}
 

@@ -1,8 +1,8 @@
 -- Maps that carry exclusive or to a sum, and the test that two of them are one. Assumes nothing.
-use Rattle.std.specs.Prelude.{◌≡◌, ℕ, zero, suc, ◌+◌, ◌*◌, ◌/◌, ◌%◌, ◌^◌, ◌<◌, ◌≤◌, Bool, true, false, ◌&&◌, T, bit_xor, refl}
-use Rattle.std.proofs.Common.{sym, ap, ap₂, ◌∙◌, subst, mul-zero, zero-mul, one-mul, mul-one, mod-lt, pow-suc, not-suc-le-zero, add_comm, zero-add, add-zero, mul_comm, arith, pow_pos, shr_lt, one-add, ⊎_elim}
+use Rattle.std.specs.Prelude.{◌≡◌, ℕ, zero, suc, ◌*◌, ◌/◌, ◌%◌, ◌^◌, ◌<◌, Bool, true, false, ◌&&◌, T, bit_xor}
+use Rattle.std.proofs.Common.{sym, ap, ap₂, ◌∙◌, subst, zero-mul, one-mul, mod-lt, not-suc-le-zero, arith, pow_pos, shr_lt, one-add, ⊎_elim}
 use Rattle.std.specs.Int.Bits.{xor_shifted, xor_self, xor_assoc, xor_zero_r}
-use Rattle.std.proofs.lemmas.Nat.{xor_comm, xor_shr, xor_mod, xor_lt}
+use Rattle.std.proofs.lemmas.Nat.{xor_comm, xor_shr, xor_mod}
 use Rattle.std.proofs.Math.Arith.{lt-one}
 use Rattle.std.proofs.Math.Pow.{split}
 use Rattle.std.proofs.lemmas.Bool.{cases_eq}

@@ -1,10 +1,10 @@
 -- The field of two elements keeps the laws. Assumes nothing.
-use Rattle.std.specs.Prelude.{◌≡◌, Bool, true, false, not, ◌&&◌, refl}
-use Rattle.std.proofs.Common.{sym, ap, ◌∙◌}
+use Rattle.std.specs.Prelude.{true, false, refl}
+use Rattle.std.proofs.Common.{sym, ap}
 use Rattle.std.proofs.lemmas.Bool.{false≢true}
 use Rattle.fields.specs.declared.bit.Bit.{Bit}
 use Rattle.fields.specs.Laws.{FieldLaws}
-use Rattle.fields.specs.Bits.{bit, differ, bit_sum, bit_product, bit_same}
+use Rattle.fields.specs.Bits.{bit, bit_sum, bit_product, bit_same}
 
 -- What is tested of both elements holds of each.
 both : (P : Bit → Type 0) → P (bit false) → P (bit true) → (a : Bit) → P a

@@ -1,6 +1,5 @@
 -- The field of two elements. Assumes nothing.
-use Rattle.std.specs.Prelude.{◌≡◌, Bool, true, false, not, ◌&&◌, refl}
-use Rattle.std.proofs.Common.{ap}
+use Rattle.std.specs.Prelude.{Bool, true, false, not, ◌&&◌}
 use Rattle.fields.specs.declared.bit.Bit.{Bit}
 
 abbrev pub bit : Bool → Bit

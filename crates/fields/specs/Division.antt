@@ -1,10 +1,10 @@
 -- The product modulo a polynomial: it is additive, stays below 2^k, and is what shifting and adding gives. Assumes nothing.
 use Rattle.std.specs.Prelude.{◌≡◌, ℕ, zero, suc, ◌+◌, ◌-◌, ◌*◌, ◌/◌, ◌%◌, ◌^◌, ◌<◌, ◌≤◌, bit_xor, refl}
-use Rattle.std.proofs.Common.{sym, ap₂, ◌∙◌, subst, zero-mul, one-mul, mul_assoc, mul_comm, mul-one, add-zero, add-suc, mod-eq_of_lt, mod-lt, zero-add, lt_of_lt_of_le, one-add, add-one, arith, pow_mono, pow-add, shl_lt, shr-shr}
+use Rattle.std.proofs.Common.{sym, ap₂, ◌∙◌, subst, zero-mul, one-mul, mul_assoc, mul-one, add-zero, add-suc, mod-eq_of_lt, mod-lt, zero-add, lt_of_lt_of_le, one-add, add-one, arith, pow_mono, shl_lt, shr-shr}
 use Rattle.std.proofs.Math.Path.{ap, subst₂}
 use Rattle.std.proofs.Math.Nat.{pow-suc, add-sub_of_le, div-eq_of_lt}
-use Rattle.std.specs.Int.Bits.{xor_self, xor_assoc, xor_zero_r, xor_lt, xor_shifted}
-use Rattle.std.proofs.lemmas.Nat.{xor_comm, xor_block, shl-shr}
+use Rattle.std.specs.Int.Bits.{xor_self, xor_zero_r, xor_lt}
+use Rattle.std.proofs.lemmas.Nat.{xor_block, shl-shr}
 use Rattle.std.proofs.Math.Pow.{pow_pos, split, shr_lt}
 use Rattle.fields.specs.Polynomials.{coefficient, carryless, remainder, product_modulo, times_x, Degree}
 use Rattle.fields.specs.Additive.{two_ways, coefficient_lt, coefficient-xor, swap_middle, bit_times_xor, xor-times, bit_times_lt, Additive, Bilinear, additive_zero}

@@ -1,6 +1,6 @@
 -- An additive map given by its columns joins a field that is read as bytes to the byte field, where some tests come out. Assumes nothing.
-use Rattle.std.specs.Prelude.{◌≡◌, ℕ, zero, suc, ◌+◌, ◌*◌, ◌/◌, ◌%◌, ◌^◌, ◌<◌, ◌≤◌, Bool, true, false, T, List, bit_xor, nat_eq, nat_lt, slice_index, refl}
-use Rattle.std.proofs.Common.{sym, ap₂, ◌∙◌, subst, zero-mul, arith, eqb→eq, ltb→lt, pow_pos}
+use Rattle.std.specs.Prelude.{◌≡◌, ℕ, zero, suc, ◌*◌, ◌%◌, ◌^◌, ◌<◌, Bool, true, false, T, List, bit_xor, nat_eq, nat_lt, slice_index, refl}
+use Rattle.std.proofs.Common.{sym, ap₂, ◌∙◌, arith, eqb→eq, ltb→lt, pow_pos}
 use Rattle.std.proofs.Math.Path.{ap}
 use Rattle.std.proofs.Math.Nat.{mod-eq_of_lt}
 use Rattle.std.specs.Int.Bits.{xor_self}
@@ -11,12 +11,11 @@ use Rattle.fields.specs.Matrices.{first_columns, by_columns}
 use Rattle.fields.specs.Polynomials.{coefficient, product_modulo}
 use Rattle.fields.specs.Towers.{JoinsBytes}
 use Rattle.fields.specs.declared.byte.Byte.{Byte}
-use Rattle.fields.specs.Additive.{Additive, Bilinear, agree, agree_twice, below, below_at, coefficient_lt, swap_middle, bit_times_lt}
+use Rattle.fields.specs.Additive.{Additive, agree, agree_twice, below, below_at, coefficient_lt, swap_middle, bit_times_lt}
 use Rattle.fields.specs.Division.{term_xor, product_bilinear, product_lt}
 use Rattle.fields.specs.FieldFacts.{right_distributes}
 use Rattle.fields.specs.Readings.{Readable}
 use Rattle.fields.specs.WordLaws.{byte_path, byte_degree, value_lt}
-use Rattle.std.proofs.lemmas.Bool.{eqb-true}
 
 pub columns_additive : (i : ℕ) (columns : List ℕ) → Additive bit_xor (first_columns i columns)
 unfolding first_columns

@@ -1,5 +1,5 @@
 -- Powers under an associative product with a one, and the product of squares that is the power 2^(j + 1) - 2. Assumes nothing.
-use Rattle.std.specs.Prelude.{◌≡◌, ℕ, zero, suc, ◌+◌, ◌-◌, ◌*◌, ◌^◌, ◌<◌, ◌≤◌, Bool}
+use Rattle.std.specs.Prelude.{◌≡◌, ℕ, zero, suc, ◌+◌, ◌-◌, ◌*◌, ◌^◌, Bool}
 use Rattle.std.proofs.Math.Path.{refl, sym, ap}
 use Rattle.std.proofs.Common.{ap₂, ◌∙◌, zero-add, suc-add, add_comm, zero-mul, suc-mul}
 use Rattle.std.proofs.Math.Nat.{pow-suc}

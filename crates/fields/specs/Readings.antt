@@ -1,17 +1,14 @@
 -- Fields whose elements are read as numbers of k bits, and pairs over them. Assumes nothing.
-use Rattle.std.specs.Prelude.{◌≡◌, ℕ, zero, suc, ◌+◌, ◌*◌, ◌/◌, ◌%◌, ◌^◌, ◌<◌, ◌≤◌, Bool, true, false, cond, ◌==◌, bit_xor, refl}
-use Rattle.std.proofs.Common.{sym, ap, ap₂, ◌∙◌, subst, subst₂, mod-eq_of_lt, mod-lt, arith, ltb→lt, pow_pos, pow-add, shr_lt}
+use Rattle.std.specs.Prelude.{◌≡◌, ℕ, ◌+◌, ◌*◌, ◌/◌, ◌%◌, ◌^◌, ◌<◌, true, false, cond, ◌==◌, bit_xor, refl}
+use Rattle.std.proofs.Common.{sym, ap, ap₂, ◌∙◌, subst, mod-eq_of_lt, mod-lt, arith, ltb→lt, pow_pos, pow-add, shr_lt}
 use Rattle.std.proofs.Math.Nat.{mod-mod}
 use Rattle.std.proofs.Math.Arith.{digits_lt, digits_div, digits_mod}
 use Rattle.std.proofs.lemmas.Nat.{xor_shr, xor_mod}
 use Rattle.std.proofs.Math.Pow.{split}
 use Rattle.fields.specs.Bits.{bit, bit_sum}
 use Rattle.fields.specs.Nibbles.{nibble, nibble_sum}
-use Rattle.fields.specs.Pairs.{pair, pair_sum}
+use Rattle.fields.specs.Pairs.{pair_sum}
 use Rattle.fields.specs.Towers.{read_pair, make_pair, read_bit, make_bit, read_nibbles, make_nibbles, read_tower, make_tower}
-use Rattle.fields.specs.declared.bit.Bit.{Bit}
-use Rattle.fields.specs.declared.nibble.Nibble.{Nibble}
-use Rattle.fields.specs.declared.pair.Pair.{Pair}
 use Rattle.fields.specs.Additive.{Additive, two_ways}
 use Rattle.fields.specs.PairLaws.{pair_path}
 use Rattle.fields.specs.WordLaws.{nibble_path}

@@ -1,5 +1,5 @@
 -- Residues modulo a polynomial over bits are a field with a marker where some tests come out, for any degree and polynomial. Assumes nothing.
-use Rattle.std.specs.Prelude.{◌≡◌, ℕ, zero, suc, ◌+◌, ◌-◌, ◌*◌, ◌/◌, ◌%◌, ◌^◌, ◌<◌, ◌≤◌, Bool, true, false, not, ◌&&◌, ◌||◌, T, ◌==◌, ◌≢◌, nat_eq, refl}
+use Rattle.std.specs.Prelude.{◌≡◌, ℕ, zero, suc, ◌-◌, ◌^◌, ◌<◌, Bool, not, ◌||◌, T, ◌==◌, ◌≢◌, nat_eq, refl}
 use Rattle.std.proofs.Math.Path.{sym, ap, ap₂}
 use Rattle.std.proofs.Common.{◌∙◌, subst, arith, lit<, pow_pos, pow_mono, lt_of_lt_of_le}
 use Rattle.std.specs.Int.Bits.{bit_xor, xor_self, xor_assoc, xor_zero_r}
@@ -8,7 +8,7 @@ use Rattle.std.proofs.Math.Dec.{eqb→eq, eqb_refl, T_not, eqb-suc-zero}
 use Rattle.fields.specs.Laws.{FieldLaws}
 use Rattle.fields.specs.Polynomials.{product_modulo, Degree}
 use Rattle.fields.specs.Powers.{power}
-use Rattle.fields.specs.Additive.{below, below_at, agree, agree_twice, Additive, additive_zero}
+use Rattle.fields.specs.Additive.{below, below_at, agree, agree_twice, additive_zero}
 use Rattle.fields.specs.Division.{product_bilinear, product_lt}
 use Rattle.fields.specs.PowersLemmas.{squares, squares_is_power}
 use Rattle.std.proofs.lemmas.Bool.{eqb-true, eq-eqb}

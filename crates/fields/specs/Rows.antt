@@ -1,12 +1,12 @@
 -- A matrix by its rows: how its loop goes on, that it is additive, and that it is the matrix by columns. Assumes nothing.
-use Rattle.std.specs.Prelude.{◌≡◌, ℕ, zero, suc, ◌+◌, ◌*◌, ◌/◌, ◌%◌, ◌^◌, ◌<◌, ◌≤◌, Bool, T, List, bit_and, bit_xor, nat_eq, slice_index, slice_index_or, refl}
+use Rattle.std.specs.Prelude.{◌≡◌, ℕ, zero, suc, ◌+◌, ◌*◌, ◌/◌, ◌%◌, ◌^◌, ◌<◌, Bool, T, List, bit_and, bit_xor, nat_eq, slice_index, slice_index_or, refl}
 use Rattle.std.proofs.Common.{sym, ap, ap₂, ◌∙◌, subst, mod-lt, mod-eq_of_lt, lt_of_lt_of_le, pow-suc, add_comm, add-one, arith, eqb→eq, pow_pos, pow_mono}
 use Rattle.std.proofs.Math.Arith.{bin_ind}
 use Rattle.std.proofs.lemmas.Nat.{and_shr, and_mod, xor_shr, xor_mod}
 use Rattle.std.specs.Int.Bits.{xor_shifted, xor_self}
 use Rattle.std.specs.Int.Count.{ones, ones_step}
 use Rattle.std.proofs.Math.Pow.{pow-lt}
-use Rattle.fields.specs.Matrices.{first_rows, first_columns, by_rows, by_columns, parity, Transposed}
+use Rattle.fields.specs.Matrices.{first_rows, by_rows, by_columns, parity, Transposed}
 use Rattle.fields.specs.Polynomials.{coefficient}
 use Rattle.fields.specs.Additive.{Additive, agree, below, below_at, two_ways, bit_times_lt, xor-times, swap_middle}
 use Rattle.fields.specs.Joins.{columns_additive}

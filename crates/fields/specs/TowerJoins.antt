@@ -1,17 +1,14 @@
 -- Both towers are joined to the byte field, and the rule of the second map's columns. Assumes nothing.
-use Rattle.std.specs.Prelude.{◌≡◌, ℕ, ◌%◌, ◌^◌, ◌<◌, Bool, true, false, cond, not, T, List, ◌==◌, nat_eq, slice_index, refl}
-use Rattle.std.proofs.Common.{sym, ap, ◌∙◌, subst, eqb→eq, T_not}
+use Rattle.std.specs.Prelude.{Bool, not, T, ◌==◌, nat_eq, slice_index, refl}
+use Rattle.std.proofs.Common.{sym, subst, eqb→eq, T_not}
 use Rattle.std.specs.Int.Count.{ones, ones_in}
-use Rattle.std.proofs.Math.Dec.{eqb_refl}
-use Rattle.fields.specs.Laws.{FieldLaws}
-use Rattle.fields.specs.Bits.{bit, bit_sum, bit_product, bit_same}
-use Rattle.fields.specs.Bytes.{byte}
+use Rattle.fields.specs.Bits.{bit_same}
 use Rattle.fields.specs.Nibbles.{nibble, nibble_sum, nibble_product, nibble_same}
 use Rattle.fields.specs.Matrices.{first_columns, first_rows}
 use Rattle.fields.specs.Pairs.{pair_sum, pair_product, pair_same}
 use Rattle.fields.specs.Polynomials.{coefficient, carryless, remainder, product_modulo}
 use Rattle.fields.specs.Powers.{power}
-use Rattle.fields.specs.Towers.{JoinsBytes, read_nibbles, make_nibbles, read_tower, make_tower, nibble_columns, nibble_back, nibble_rows, nibble_back_rows, tower_columns, tower_back, tower_rows, tower_back_rows, into_nibbles, out_of_nibbles, into_tower, out_of_tower, tower_zero, tower_one, tower_sum, tower_product, value_at, Root, LeastRoot}
+use Rattle.fields.specs.Towers.{JoinsBytes, read_nibbles, make_nibbles, read_tower, make_tower, nibble_columns, nibble_back, nibble_rows, nibble_back_rows, tower_columns, tower_back, tower_rows, tower_back_rows, into_nibbles, out_of_nibbles, into_tower, out_of_tower, tower_one, tower_sum, tower_product, value_at, Root, LeastRoot}
 use Rattle.fields.specs.Additive.{below, below_at}
 use Rattle.fields.specs.BitLaws.{bit_laws}
 use Rattle.fields.specs.Joins.{Tested, small_columns, undone, multiplies, joins}

@@ -3,7 +3,7 @@ use Rattle.std.specs.Prelude.{◌≡◌, ℕ, zero, suc, ◌+◌, ◌*◌, ◌/�
 use Rattle.fields.specs.Bits.{bit, bit_sum, bit_product}
 use Rattle.fields.specs.Bytes.{byte, byte_sum, byte_product}
 use Rattle.fields.specs.Matrices.{by_columns}
-use Rattle.fields.specs.Nibbles.{nibble, nibble_sum, nibble_product}
+use Rattle.fields.specs.Nibbles.{nibble}
 use Rattle.fields.specs.Pairs.{pair, pair_zero, pair_one, pair_marker, pair_sum, pair_product}
 use Rattle.fields.specs.Polynomials.{coefficient}
 use Rattle.fields.specs.Powers.{power}

@@ -1,12 +1,11 @@
 -- The nibble and the byte are such words, and their polynomials and markers pass the tests. Assumes nothing.
-use Rattle.std.specs.Prelude.{◌≡◌, ℕ, zero, suc, ◌%◌, ◌^◌, ◌<◌, ◌≤◌, T, ◌≢◌, bit_xor, nat_lt, refl}
-use Rattle.std.proofs.Common.{sym, ap, ap₂, ◌∙◌, subst, arith, mod-eq_of_lt, ltb→lt, lit<, lit≤}
+use Rattle.std.specs.Prelude.{◌≡◌, ℕ, zero, suc, ◌<◌, ◌≤◌, T, ◌≢◌, bit_xor, nat_lt, refl}
+use Rattle.std.proofs.Common.{sym, ap, ap₂, ◌∙◌, arith, mod-eq_of_lt, ltb→lt, lit<, lit≤}
 use mathlib.Core.HLevel.{is_prop→PathP}
 use Rattle.std.proofs.lemmas.Nat.{xor_lt}
 use Rattle.std.proofs.Math.Dec.{T_prop}
 use Rattle.fields.specs.Laws.{FieldLaws}
 use Rattle.fields.specs.Polynomials.{coefficient, carryless, remainder, product_modulo, Degree}
-use Rattle.fields.specs.Powers.{power}
 use Rattle.fields.specs.Nibbles.{nibble, nibble_sum, nibble_product, nibble_inverse, nibble_same}
 use Rattle.fields.specs.Bytes.{byte, byte_sum, byte_product, byte_inverse, byte_same}
 use Rattle.fields.specs.declared.nibble.Nibble.{Nibble}

@@ -5,6 +5,7 @@
 //! to the byte field: `NibblePair` and `BitTower` are two fields of 256 elements that are joined so, and inverting in either is inverting bytes.
 
 #![tactic(auto)]
+
 mod bit;
 mod bit_tower;
 mod byte;

@@ -1,5 +1,5 @@
 -- Powers whose exponent is a power of two carry sums to sums, so their values at 01, 02, 04, .. 80 tell all others. Assumes nothing.
-use Rattle.std.proofs.Common.{◌≡◌, ℕ, zero, suc, ◌+◌, ◌*◌, ◌%◌, ◌^◌, ◌<◌, Bool, T, eqb, List, [], ◌∷◌, get_or, sym, refl, ap, ◌∙◌, ap₂, add-one, eqb→eq}
+use Rattle.std.proofs.Common.{◌≡◌, ℕ, zero, suc, ◌+◌, ◌*◌, ◌%◌, ◌^◌, Bool, T, eqb, List, [], ◌∷◌, get_or, sym, refl, ap, ◌∙◌, add-one, eqb→eq}
 use native.Mathlib.Nat.{mod-mod}
 use lib.Bits.{bit_xor, xor_mod}
 use Rattle.fields.specs.Bytes.{byte, byte_sum, byte_product}
@@ -7,7 +7,7 @@ use Rattle.fields.specs.Laws.{FieldLaws}
 use Rattle.fields.specs.Matrices.{first_columns, by_columns}
 use Rattle.fields.specs.Polynomials.{coefficient, carryless, remainder, product_modulo}
 use Rattle.fields.specs.declared.byte.Byte.{Byte}
-use Rattle.fields.specs.Additive.{Additive, agree, below, below_at}
+use Rattle.fields.specs.Additive.{agree, below, below_at}
 use Rattle.fields.specs.FieldFacts.{ring}
 use Rattle.fields.specs.Joins.{columns_additive}
 use Rattle.fields.specs.PowersLemmas.{first_power, joined_powers}

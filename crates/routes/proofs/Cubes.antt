@@ -1,7 +1,7 @@
 -- Why a·s·s + s inverts a where a·s is a cube root of one, and s does where that is zero. Assumes nothing.
-use Rattle.std.proofs.Common.{◌≡◌, Bool, sym, refl, ap, ◌∙◌, ⊎_elim}
+use Rattle.std.proofs.Common.{◌≡◌, Bool, sym, ap, ◌∙◌, ⊎_elim}
 use Rattle.fields.specs.Laws.{FieldLaws}
-use Rattle.fields.specs.FieldFacts.{ring, no_zero_divisors, equal_of_zero_sum, one_product, product_zero, sum_cancel}
+use Rattle.fields.specs.FieldFacts.{ring, no_zero_divisors, equal_of_zero_sum, one_product, product_zero}
 
 module _ {F : Type 0} {zero one marker : F} {sum product : F → F → F} {inverse : F → F} {same : F → F → Bool} (laws : FieldLaws zero one marker sum product inverse same) where
   -- (c + 1)(cc + c + 1) = ccc + 1

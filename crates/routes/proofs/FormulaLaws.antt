@@ -1,11 +1,11 @@
 -- Each formula inverts. Assumes nothing.
-use Rattle.std.proofs.Common.{◌≡◌, ℕ, ◌+◌, ◌*◌, ◌<◌, Bool, true, false, cond, eqb, get_or, sym, refl, ap, ◌∙◌, subst, ap₂}
+use Rattle.std.proofs.Common.{◌≡◌, ℕ, ◌<◌, cond, eqb, sym, refl, ap, ◌∙◌, subst}
 use Rattle.fields.specs.Bytes.{byte, byte_sum, byte_product}
 use Rattle.fields.specs.declared.byte.Byte.{Byte}
 use Rattle.fields.specs.FieldFacts.{zero_product, product_left_comm}
 use Rattle.fields.specs.PowersLemmas.{first_power, joined_powers, powers_of_powers}
-use Rattle.fields.specs.WordLaws.{byte_laws, byte-value, value_lt}
-use Rattle.routes.specs.Formulas.{byte_power, twisted, fourth, eighth, table_index, inverse_table}
+use Rattle.fields.specs.WordLaws.{byte_laws}
+use Rattle.routes.specs.Formulas.{byte_power, twisted, fourth, eighth}
 use Rattle.routes.specs.Inverting.{Inverts}
 use Rattle.routes.proofs.Cubes.{zero_twist}
 use Rattle.routes.proofs.Inversions.{shown, full_order, zero_powered, cube_power, picked, picks, picked_value, twist_picks}

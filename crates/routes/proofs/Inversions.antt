@@ -1,11 +1,11 @@
 -- What it is to invert, against the byte field's inverse, and how a formula comes to it. Assumes nothing.
-use Rattle.std.proofs.Common.{◌≡◌, ℕ, zero, suc, ◌+◌, ◌*◌, ◌<◌, Bool, true, false, cond, eqb, ◌⊎◌, sym, refl, ap, ◌∙◌, subst, ap₂, inl, inr, ⊎_elim, arith, lit<}
+use Rattle.std.proofs.Common.{◌≡◌, ℕ, zero, suc, ◌+◌, ◌<◌, Bool, true, false, cond, eqb, sym, refl, ap, ◌∙◌, subst, inl, inr, ⊎_elim, arith, lit<}
 use lib.Dec.{eqb-suc-zero}
-use Rattle.fields.specs.Bytes.{byte, byte_sum, byte_product, byte_inverse}
+use Rattle.fields.specs.Bytes.{byte, byte_product, byte_inverse}
 use Rattle.fields.specs.Powers.{power}
 use Rattle.fields.specs.declared.byte.Byte.{Byte}
-use Rattle.fields.specs.FieldFacts.{equal?, inverse_unique, inverse_unique_zero, zero_product, product_left_comm}
-use Rattle.fields.specs.PowersLemmas.{first_power, joined_powers}
+use Rattle.fields.specs.FieldFacts.{equal?, inverse_unique, inverse_unique_zero, zero_product}
+use Rattle.fields.specs.PowersLemmas.{joined_powers}
 use Rattle.fields.specs.WordLaws.{byte_laws, byte_path, byte-value, value_lt, byte_of-value}
 use Rattle.routes.specs.Formulas.{byte_power, twisted}
 use Rattle.routes.specs.Inverting.{Inverts, Determined}

@@ -1,5 +1,5 @@
 -- Numbers that hold elements of the pile of three pairs over bits. Assumes nothing.
-use Rattle.std.proofs.Common.{◌≡◌, ℕ, ◌+◌, ◌*◌, ◌/◌, ◌%◌, ◌^◌, ◌<◌, Bool, true, false, T, eqb, sym, refl, ap, ◌∙◌, subst, ap₂, mod-lt, arith, eqb→eq}
+use Rattle.std.proofs.Common.{◌≡◌, ℕ, ◌+◌, ◌*◌, ◌/◌, ◌%◌, ◌^◌, ◌<◌, Bool, true, false, T, eqb, sym, refl, ap, ◌∙◌, subst, mod-lt, arith, eqb→eq}
 use lib.Bits.{bit_xor, bit_and, bit_or, xor_shr, xor_mod}
 use Rattle.fields.specs.Bits.{bit, bit_sum}
 use Rattle.fields.specs.Pairs.{pair}

@@ -1,5 +1,5 @@
 -- Masks and bits. Assumes nothing.
-use Rattle.std.proofs.Common.{◌≡◌, ℕ, zero, suc, ◌+◌, ◌-◌, ◌*◌, ◌/◌, ◌%◌, ◌<◌, Bool, true, false, cond, eqb, ltb, sym, refl, ap, ◌∙◌, ap₂, ⊎_elim, mod-eq_of_lt, one-mul, zero-mul, arith}
+use Rattle.std.proofs.Common.{◌≡◌, ℕ, zero, suc, ◌+◌, ◌-◌, ◌*◌, ◌/◌, ◌%◌, ◌<◌, Bool, true, false, cond, eqb, ltb, sym, ap, ◌∙◌, ap₂, ⊎_elim, mod-eq_of_lt, one-mul, zero-mul, arith}
 use lib.Bits.{bit_and, bit_or, bit_xor, and_zero_r, and_mask, or_zero_r, xor_zero_r}
 use lib.Dec.{eqb-suc-zero}
 use mir.Val.{bool_byte}

@@ -1,6 +1,5 @@
 -- The 17th powers: their fourth and eighth powers by bits, and the table of their inverses, by one test at every byte. Assumes nothing.
-use Rattle.std.proofs.Common.{◌≡◌, ℕ, zero, suc, ◌<◌, Bool, ◌&&◌, ◌||◌, T, eqb, get_or, sym, refl, ap, ◌∙◌, subst, eqb→eq}
-use lib.Dec.{eqb-suc-zero}
+use Rattle.std.proofs.Common.{◌≡◌, ℕ, Bool, ◌&&◌, ◌||◌, T, eqb, get_or, subst, eqb→eq}
 use Rattle.fields.specs.Bytes.{byte, byte_product}
 use Rattle.fields.specs.Polynomials.{coefficient, carryless, remainder, product_modulo}
 use Rattle.fields.specs.Powers.{power}

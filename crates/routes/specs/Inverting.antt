@@ -1,5 +1,5 @@
 -- What it is to invert a byte. Assumes nothing.
-use Rattle.std.specs.Prelude.{◌≡◌, ℕ, ◌<◌, ◌⊎◌, List, length, slice_index}
+use Rattle.std.specs.Prelude.{◌≡◌, ℕ, ◌<◌, ◌⊎◌, List, slice_index}
 use Rattle.fields.specs.Bytes.{byte, byte_product}
 
 -- r inverts a: their product in the byte field is 01, or both are 00. A relation and no formula; it determines r.

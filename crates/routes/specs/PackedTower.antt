@@ -3,7 +3,7 @@
 use Rattle.std.specs.Prelude.{ℕ, true, false}
 use Rattle.fields.specs.Bits.{bit, bit_sum, bit_product}
 use Rattle.fields.specs.Pairs.{pair_zero, pair_marker, pair_sum, pair_product, pair_inverse}
-use Rattle.fields.specs.Towers.{BitTower, make_pair, make_bit, make_tower}
+use Rattle.fields.specs.Towers.{BitTower, make_pair, make_bit}
 use Rattle.fields.specs.declared.bit.Bit.{Bit}
 use Rattle.fields.specs.declared.pair.Pair.{Pair}
 

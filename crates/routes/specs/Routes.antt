@@ -1,5 +1,5 @@
 -- What a route does, by its tally, the number of times that it was asked. Assumes nothing.
-use Rattle.std.specs.Prelude.{◌≡◌, ℕ, ◌+◌, ◌^◌, ◌<◌, ◌≤◌, List, replicate, Result, MatchResult}
+use Rattle.std.specs.Prelude.{◌≡◌, ℕ, ◌+◌, ◌<◌, ◌≤◌, List, replicate, Result, MatchResult}
 use Rattle.routes.specs.Inverting.{AllInvert}
 use Rattle.routes.specs.Refusals.{numbers}
 use Rattle.routes.specs.declared.refusal.Refusal.{Refusal}

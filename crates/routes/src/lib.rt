@@ -1,6 +1,7 @@
 //! Routes: ways to invert sixteen bytes at a time in the byte field of AES, each with a tally.
 
 #![tactic(auto)]
+
 mod additive_power;
 mod agreement;
 mod any_route;

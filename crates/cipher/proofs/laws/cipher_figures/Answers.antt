@@ -1,4 +1,4 @@
-use Rattle.std.proofs.Common.{◌≡◌, ◌+◌, ◌++◌, refl, ap, ◌∙◌}
+use Rattle.std.proofs.Common.{◌+◌, ◌++◌, refl, ap}
 use Rattle.fields.proofs.FigureLists.{come_out_both}
 use Rattle.fields.specs.Bytes.{byte}
 use Rattle.fields.specs.Figures.{ComeOut, field_figures}

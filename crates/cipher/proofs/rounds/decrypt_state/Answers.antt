@@ -1,7 +1,7 @@
-use Rattle.std.proofs.Common.{◌≡◌, ◌+◌, ◌-◌, ◌<◌, sym, ap, ◌∙◌, ap₂, arith}
+use Rattle.std.proofs.Common.{◌≡◌, ◌-◌, sym, ap, ◌∙◌, ap₂, arith}
 use Rattle.cipher.specs.Fips197.{add_round_key, inv_mix_columns, inv_shift_rows, inv_sub_bytes, inv_rounds, round_key, inv_cipher}
 use Rattle.cipher.specs.Layout.{columns_state}
-use Rattle.cipher.specs.Schedules.{schedule_words, schedule_rounds}
+use Rattle.cipher.specs.Schedules.{schedule_words}
 use Rattle.cipher.proofs.RoundSteps.{inv_round_step}
 use Rattle.cipher.proofs.rounds.decrypt_state.Goals as goal
 

@@ -1,4 +1,4 @@
-use Rattle.std.proofs.Common.{◌≡◌, ◌+◌, ◌-◌, ◌<◌, sym, refl, ap, ◌∙◌, ap₂, arith}
+use Rattle.std.proofs.Common.{◌≡◌, ◌+◌, ◌-◌, sym, refl, ap, ◌∙◌, ap₂, arith}
 use Rattle.cipher.specs.Fips197.{add_round_key, mix_columns, shift_rows, sub_bytes, rounds, round_key, cipher}
 use Rattle.cipher.specs.Layout.{columns_state}
 use Rattle.cipher.specs.Schedules.{schedule_words, schedule_rounds}

@@ -1,5 +1,5 @@
 use Rattle.std.proofs.Common.{ℕ, List, [], ◌∷◌, get_or, ap₂}
-use Rattle.cipher.specs.Fips197.{word_at, word_bytes, state_bytes}
+use Rattle.cipher.specs.Fips197.{word_bytes, state_bytes}
 use Rattle.cipher.specs.Layout.{columns_state}
 use Rattle.cipher.proofs.state.to_bytes.Goals as goal
 

@@ -1,4 +1,4 @@
-use Rattle.std.proofs.Common.{arith, lit<}
+use Rattle.std.proofs.Common.{lit<}
 use Rattle.cipher.specs.Fips197.{word_at, word_bytes, sub_word}
 use Rattle.cipher.proofs.Lists.{four}
 use Rattle.cipher.proofs.words.sub_word.Goals as goal

@@ -1,4 +1,4 @@
-use Rattle.std.proofs.Common.{◌≡◌, ◌+◌, ◌*◌, ◌%◌, ◌^◌, ◌<◌, sym, refl, subst, w8, Fits}
+use Rattle.std.proofs.Common.{◌≡◌, ◌+◌, ◌*◌, ◌%◌, ◌^◌, sym, refl, subst, w8, Fits}
 use Rattle.fields.specs.Matrices.{first_rows}
 use Rattle.fields.specs.Rows.{rows_turn, rows_fit}
 use Rattle.fields.proofs.matrix.image.Goals as goal

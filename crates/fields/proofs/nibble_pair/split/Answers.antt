@@ -1,4 +1,4 @@
-use Rattle.std.proofs.Common.{sym, ◌∙◌, ap₂}
+use Rattle.std.proofs.Common.{sym, ◌∙◌}
 use native.Mathlib.Nat.{mod-mod}
 use Rattle.fields.specs.Nibbles.{nibble}
 use Rattle.fields.specs.PairLaws.{pair_path}

@@ -1,4 +1,4 @@
-use Rattle.std.proofs.Common.{◌≡◌, ◌*◌, get_or, sym, refl, ap, ◌∙◌, ap₂}
+use Rattle.std.proofs.Common.{◌*◌, get_or, sym, refl, ap, ◌∙◌, ap₂}
 use lib.Bits.{bit_xor}
 use Rattle.fields.specs.Matrices.{first_columns}
 use Rattle.routes.proofs.Selections.{bit_keeps}

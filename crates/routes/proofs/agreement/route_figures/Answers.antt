@@ -1,7 +1,5 @@
-use Rattle.std.proofs.Common.{◌≡◌, ◌+◌, ◌++◌, refl, ap, ◌∙◌}
-use Rattle.fields.specs.Figures.{ComeOut, field_figures}
+use Rattle.std.proofs.Common.{◌+◌, refl, ap}
 use Rattle.fields.specs.Polynomials.{coefficient}
-use Rattle.routes.specs.Figures.{route_figures}
 use Rattle.routes.specs.Formulas.{table_index}
 use Rattle.routes.proofs.agreement.route_figures.Goals as goal
 

@@ -1,4 +1,4 @@
-use Rattle.std.proofs.Common.{◌≡◌, sym, ap, ◌∙◌, subst, arith}
+use Rattle.std.proofs.Common.{sym, ap, ◌∙◌, subst, arith}
 use Rattle.fields.specs.Bytes.{byte}
 use Rattle.fields.proofs.JoinFacts.{out_inverse}
 use Rattle.routes.specs.Inverting.{Inverts}

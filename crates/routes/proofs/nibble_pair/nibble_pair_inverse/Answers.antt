@@ -1,4 +1,4 @@
-use Rattle.std.proofs.Common.{◌≡◌, ◌/◌, sym, ap, ◌∙◌, subst, arith}
+use Rattle.std.proofs.Common.{sym, ap, ◌∙◌, subst, arith}
 use native.Mathlib.Nat.{mod-mod}
 use Rattle.fields.specs.Bytes.{byte}
 use Rattle.fields.specs.Matrices.{by_columns}

@@ -1,4 +1,3 @@
-use Rattle.std.proofs.Common.{arith}
 use lib.Bits.{xor_lt}
 use Rattle.routes.proofs.Packing.{two_adds}
 use Rattle.routes.proofs.packed_tower.sum2.Goals as goal

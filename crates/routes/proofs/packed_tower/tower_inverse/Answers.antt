@@ -1,4 +1,4 @@
-use Rattle.std.proofs.Common.{◌≡◌, sym, ap, ◌∙◌, subst, arith}
+use Rattle.std.proofs.Common.{sym, ap, ◌∙◌, subst, arith}
 use Rattle.fields.specs.Bytes.{byte}
 use Rattle.fields.specs.Matrices.{by_columns}
 use Rattle.fields.specs.Towers.{make_tower, read_tower, tower_columns, tower_back}

@@ -1,4 +1,4 @@
-use Rattle.std.proofs.Common.{◌≡◌, ◌/◌, ◌^◌, ◌<◌, sym, ◌∙◌, subst}
+use Rattle.std.proofs.Common.{◌/◌, ◌^◌, ◌<◌, sym, subst}
 use lib.Bits.{and_mask}
 use Rattle.fields.specs.Polynomials.{coefficient}
 use Rattle.fields.specs.Additive.{coefficient_lt}

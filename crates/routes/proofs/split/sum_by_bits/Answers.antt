@@ -1,6 +1,5 @@
 use Rattle.std.proofs.Common.{◌≡◌, ℕ, ◌*◌, ◌<◌, cond, eqb, ap, ◌∙◌, ap₂}
 use lib.Bits.{bit_xor}
-use Rattle.fields.specs.Polynomials.{coefficient}
 use Rattle.routes.specs.Formulas.{by_bits}
 use Rattle.routes.proofs.Selections.{bit_keeps}
 use Rattle.routes.proofs.split.sum_by_bits.Goals as goal

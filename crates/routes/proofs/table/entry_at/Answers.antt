@@ -1,4 +1,4 @@
-use Rattle.std.proofs.Common.{◌≡◌, cond, ltb, get_or, refl, ap, ◌∙◌, arith}
+use Rattle.std.proofs.Common.{cond, get_or, ap, ◌∙◌, arith}
 use Rattle.routes.specs.Formulas.{inverse_table}
 use Rattle.routes.proofs.Selections.{walked}
 use Rattle.routes.proofs.table.entry_at.Goals as goal

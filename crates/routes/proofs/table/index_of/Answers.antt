@@ -1,4 +1,4 @@
-use Rattle.std.proofs.Common.{◌≡◌, ◌+◌, ◌*◌, ap₂, arith}
+use Rattle.std.proofs.Common.{arith}
 use Rattle.routes.specs.Formulas.{table_index}
 use Rattle.routes.proofs.table.index_of.Goals as goal
 

@@ -1,7 +1,7 @@
-use Rattle.std.proofs.Common.{◌≡◌, cond, eqb, sym, ap, ◌∙◌, ap₂, arith}
-use Rattle.fields.specs.Bytes.{byte, byte_sum, byte_product}
+use Rattle.std.proofs.Common.{cond, eqb, ap, ◌∙◌, ap₂, arith}
+use Rattle.fields.specs.Bytes.{byte_sum, byte_product}
 use Rattle.fields.specs.WordLaws.{byte_laws}
-use Rattle.routes.specs.Formulas.{byte_power, twisted}
+use Rattle.routes.specs.Formulas.{byte_power}
 use Rattle.routes.proofs.FormulaLaws.{power_inverts}
 use Rattle.routes.proofs.power.PowerFormula.steps.Goals as goal
 

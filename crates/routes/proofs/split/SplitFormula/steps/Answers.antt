@@ -1,6 +1,6 @@
-use Rattle.std.proofs.Common.{◌≡◌, cond, eqb, sym, ap, ◌∙◌, subst, ap₂, arith}
+use Rattle.std.proofs.Common.{cond, eqb, sym, ap, ◌∙◌, subst, ap₂, arith}
 use Rattle.fields.specs.Bytes.{byte, byte_sum, byte_product}
-use Rattle.routes.specs.Formulas.{byte_power, by_bits, fourth, eighth}
+use Rattle.routes.specs.Formulas.{byte_power, by_bits}
 use Rattle.routes.specs.Inverting.{Inverts}
 use Rattle.routes.proofs.FormulaLaws.{seventeenth, split_inverts}
 use Rattle.routes.proofs.Inversions.{picked}

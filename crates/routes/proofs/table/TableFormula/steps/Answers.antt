@@ -1,4 +1,4 @@
-use Rattle.std.proofs.Common.{◌≡◌, get_or, sym, ap, ◌∙◌, subst, ap₂, arith}
+use Rattle.std.proofs.Common.{get_or, sym, ap, ◌∙◌, subst, arith}
 use Rattle.fields.specs.Bytes.{byte, byte_product}
 use Rattle.routes.specs.Formulas.{byte_power, table_index, inverse_table}
 use Rattle.routes.specs.Inverting.{Inverts}

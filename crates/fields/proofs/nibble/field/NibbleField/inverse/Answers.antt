@@ -1,5 +1,5 @@
 use mathlib.Core.Bool.{false≢true}
-use Rattle.std.proofs.Common.{◌≡◌, ◌<◌, ◌≤◌, sym, ap, ◌∙◌, ⊎_elim, arith}
+use Rattle.std.proofs.Common.{◌≡◌, ◌<◌, sym, ap, ◌∙◌, ⊎_elim, arith}
 use Rattle.fields.specs.Nibbles.{nibble, nibble_product}
 use Rattle.fields.specs.FieldFacts.{inverse_unique}
 use Rattle.fields.specs.WordLaws.{nibble_laws, none_fits}
