@@ -15,7 +15,7 @@ returns-in_err-session g c =
     let keyed = c.in_ok-set_key.ensures in
     let p = err_from_is_err_and c.from_residual-in_err-session.result c.from_residual-in_err-session.ensures.1 in
     let given = ap numbers_given p.1 ∙ ap refusal p.2 in
-    let refused = not_opened u c.args.run.now c.in_err-session.field0.0 _ (g.met.R.Route.capped c.args.engine.now.route) keyed.0 c.in_err-session.ensures keyed.2 in
+    let refused = not_opened u c.args.run.now c.in_err-session.field-0.0 _ (g.met.R.Route.capped c.args.engine.now.route) keyed.0 c.in_err-session.ensures keyed.2 in
     subst (λ a. Covered u c.args.run.now a (tally c.set_key.new.self.route) c.args.run.now) (sym given) refused
 
 pub returns : goal.returns

@@ -16,7 +16,7 @@ loop-call-init g c =
 
 pub loop-call-preserved : goal.loop-call-preserved
 loop-call-preserved g c =
-    let before = c.deref-mut-call-items.result.now in
+    let before = c.deref_mut-call-items.result.now in
     let now' = c.loop-call.call-items in
     let i = c.loop-call.call-index in
     let call' = c.carry_out_one-answer.new.call in
@@ -30,5 +30,5 @@ loop-call-preserved g c =
 pub returns : goal.returns
 returns g c =
     let items = c.loop-call.call-items in
-    let known = c.deref-mut-call-items.ensures in
-    carried_all c.deref-mut-call-items.result.now items _ _ c.loop-call.call-index (omega arith) (omega arith) known.value (with_items_is c.args.calls.now items (omega arith)) c.loop-call.invariant.0
+    let known = c.deref_mut-call-items.ensures in
+    carried_all c.deref_mut-call-items.result.now items _ _ c.loop-call.call-index (omega arith) (omega arith) known.value (with_items_is c.args.calls.now items (omega arith)) c.loop-call.invariant.0

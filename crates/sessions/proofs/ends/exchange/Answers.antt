@@ -15,7 +15,7 @@ pub returns-in_err-transmitter : goal.returns-in_err-transmitter
 returns-in_err-transmitter g c =
     let u = set_up_with c.args.key.now c.args.prefix.now c.args.at in
     let p = err_from_is_err_and c.from_residual-in_err-transmitter.result c.from_residual-in_err-transmitter.ensures.1 in
-    let failed = subst (λ n. Failed (u n) c.in_err-transmitter.field0.0) c.in_ok-near.ensures.made.1 c.in_err-transmitter.ensures in
+    let failed = subst (λ n. Failed (u n) c.in_err-transmitter.field-0.0) c.in_ok-near.ensures.made.1 c.in_err-transmitter.ensures in
     record { ends = failed_exit (u c.args.start) _ p.1 (subst (Failed (u c.args.start)) (sym p.2) failed); laws = session_laws }
 
 pub returns-in_err-sent : goal.returns-in_err-sent
@@ -28,7 +28,7 @@ pub returns-in_err-gateway : goal.returns-in_err-gateway
 returns-in_err-gateway g c =
     let u = set_up_with c.args.key.now c.args.prefix.now c.args.at in
     let p = err_from_is_err_and c.from_residual-in_err-gateway.result c.from_residual-in_err-gateway.ensures.1 in
-    let failed = subst (λ n. Failed (u n) c.in_err-gateway.field0.0) c.in_ok-far.ensures.made.1 c.in_err-gateway.ensures in
+    let failed = subst (λ n. Failed (u n) c.in_err-gateway.field-0.0) c.in_ok-far.ensures.made.1 c.in_err-gateway.ensures in
     record { ends = failed_exit (u c.args.start) _ p.1 (subst (Failed (u c.args.start)) (sym p.2) failed); laws = session_laws }
 
 pub returns : goal.returns
