@@ -1,6 +1,5 @@
 -- The exchange of the demonstration. Assumes nothing.
 use Rattle.std.specs.Prelude.{◌≡◌, ℕ, List, [], ◌∷◌, map, codes, Result, MatchResult}
-use Rattle.routes.specs.AnyRoutes.{any_tally}
 use Rattle.routes.specs.declared.name.RouteName.{RouteName}
 use Rattle.sessions.specs.Calls.{Call, cover, skip, remaining}
 use Rattle.sessions.specs.Exchanges.{call_in, run_in, BothRan}
@@ -33,5 +32,5 @@ second_run (a ∷ b ∷ cs) = run_in b
 abbrev pub DeliveryMade : RouteName → RouteName → Result Delivery ExchangeError → Type 0
 DeliveryMade from to r =
     MatchResult r
-    (λ d. (d.from ≡ from) × (d.to ≡ to) × ((cs : List SessionCall) × CallsAre cs × BothRan any_tally any_tally delivery_set_up cs d.ends.transmitter d.ends.gateway))
+    (λ d. (d.from ≡ from) × (d.to ≡ to) × ((cs : List SessionCall) × CallsAre cs × BothRan delivery_set_up cs d.ends.transmitter d.ends.gateway))
     (λ e. e ≡ Memory)

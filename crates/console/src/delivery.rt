@@ -2,8 +2,8 @@
 ghost use Rattle.std.specs.Prelude.{◌≡◌, IfOk, Decides};
 ghost use Rattle.console.specs.Deliveries.{CallsAre, DeliveryMade, second_run, reading};
 
-use routes::{AnyRoute, Route, RouteName};
-use sessions::{BothEnds, End, ExchangeError, ExchangeErrorFromAllocError, SessionCall, exchange};
+use routes::{AnyRoute, RouteName};
+use sessions::{BothEnds, End, ExchangeError, SessionCall, exchange};
 use std::alloc::{AllocError, Global};
 
 /// The key of both ends.
@@ -26,7 +26,7 @@ pub const READING: &[u8] = b"tank=fermenter 7; volume=212 hl";
 pub struct Delivery {
     pub from: RouteName,
     pub to: RouteName,
-    pub ends: BothEnds<AnyRoute, AnyRoute>,
+    pub ends: BothEnds,
 }
 
 /// The calls of the demonstration: the reading is covered, some numbers are left out, and then too many.
@@ -85,7 +85,7 @@ impl Delivery {
 }
 
 /// The run of an end's second call, or no bytes where that has none.
-fn second_run(end: &End<AnyRoute>) -> &[u8]
+fn second_run(end: &End) -> &[u8]
     ensures { result.now ≡ second_run end.now.calls.items }
 {
     match end.calls.as_slice().get(1) {

@@ -1,6 +1,7 @@
 //! Scripts of calls: what a line means, what its command does, and its answer as text.
 
 #![tactic(auto)]
+
 mod answer;
 mod command;
 mod delivery;

@@ -1,10 +1,8 @@
 //! The demonstration: a reading on its way, told for people.
 use crate::delivery::{Delivery, KEY, OPENING, PREFIX, READING, START};
 use crate::hex::Hex;
-use routes::{AnyRoute, Route, RouteName};
-use sessions::{
-    End, ExchangeError, ExchangeErrorDisplay, ExchangeErrorError, SessionAnswer, SessionCall,
-};
+use routes::RouteName;
+use sessions::{End, SessionAnswer, SessionCall};
 use std::{fmt, io};
 
 /// Bytes as characters, with a dot for those that can't be shown.
@@ -56,11 +54,7 @@ impl fmt::Display for Told {
 }
 
 /// Prints the calls, each with its answer at both ends.
-fn show_calls(
-    rt: &(impl Print + AllocGlobal),
-    near: &End<AnyRoute>,
-    far: &End<AnyRoute>,
-) -> anyhow::Result<()> {
+fn show_calls(rt: &(impl Print + AllocGlobal), near: &End, far: &End) -> anyhow::Result<()> {
     let heap = rt.alloc();
     println!(rt; "call                at the transmitter    at the gateway")?;
     for i in 0..near.calls.len() {
@@ -79,8 +73,8 @@ fn show_calls(
 
 /// Prints how a tally comes about.
 fn show_tally(rt: &impl Print, delivery: &Delivery) -> io::Result<()> {
-    let near = delivery.ends.transmitter.route.tally();
-    let far = delivery.ends.gateway.route.tally();
+    let near = delivery.ends.transmitter.tally;
+    let far = delivery.ends.gateway.tally;
     println!(rt; "tallies             {near:<20}  {far}")?;
     let blocks = (READING.len() + 15) / 16;
     println!(rt;
@@ -99,8 +93,8 @@ pub fn show_delivery(rt: &(impl Print + AllocGlobal), delivery: &Delivery) -> an
     println!(rt; "both open at        {OPENING}")?;
     println!(rt;
         "route               {:<20}  {}",
-        near.route.name(),
-        far.route.name()
+        delivery.from.text(),
+        delivery.to.text()
     )?;
     println!(rt)?;
     show_calls(rt, near, far)?;
@@ -137,10 +131,10 @@ fn show_pair(rt: &impl Print, delivery: &Delivery) -> io::Result<()> {
     };
     println!(rt;
         "{:<11}  {:<11}  {} {}   {} {}   {came}",
-        near.route.name(),
-        far.route.name(),
-        near.route.tally(),
-        far.route.tally(),
+        delivery.from.text(),
+        delivery.to.text(),
+        near.tally,
+        far.tally,
         near.closed,
         far.closed
     )

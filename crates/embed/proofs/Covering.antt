@@ -1,5 +1,5 @@
 -- Covering one run from a set-up: what is answered, counted and left. Assumes nothing.
-use Rattle.std.proofs.Common.{◌≡◌, ℕ, ◌+◌, ◌-◌, ◌≤◌, true, false, leb, List, [], ◌∷◌, length, Some, None, Option, Result, sym, refl, ap, ◌∙◌, subst, ap₂, arith}
+use Rattle.std.proofs.Common.{◌≡◌, ℕ, ◌+◌, ◌≤◌, true, false, leb, List, length, Some, None, Option, Result, sym, refl, ap, ◌∙◌, subst, ap₂, arith}
 use Rattle.std.proofs.lemmas.Bool.{le-leb, cond-true}
 use Rattle.cipher.specs.Engines.{engine_key}
 use Rattle.cipher.specs.Keys.{key_cost, key_verdict}
@@ -15,7 +15,7 @@ use Rattle.sessions.specs.Reading.{key_or_none, held_by, numbers_given, covering
 use Rattle.sessions.specs.declared.session.Session.{Session}
 use Rattle.sessions.proofs.SetUps.{allowed_by}
 use Rattle.sessions.proofs.Steps.{held_path, taken_is_ctr}
-use Rattle.embed.specs.Covers.{answer_by, count_by, ruled_cover, cover_answer, refused_tally, ruled_tally, cover_tally, one_cover, RunLeft, Covered}
+use Rattle.embed.specs.Covers.{answer_by, count_by, ruled_cover, cover_answer, refused_tally, ruled_tally, one_cover, RunLeft, Covered}
 
 -- ---- a set-up that is refused
 

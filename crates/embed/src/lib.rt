@@ -2,6 +2,7 @@
 //! session needs is passed, and what is to be kept is left in a reply.
 
 #![tactic(auto)]
+
 mod cover;
 mod cover_call;
 mod invert;

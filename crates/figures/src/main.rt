@@ -1,6 +1,7 @@
 //! Holds worked figures and the published vectors against the library, on all five routes. A line for each: its label, and `same` or `differs`.
 
 #![tactic(auto)]
+
 mod engines;
 mod exchanges;
 mod fips197;

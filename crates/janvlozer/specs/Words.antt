@@ -1,5 +1,5 @@
 -- What the words of the command line mean. Assumes nothing.
-use Rattle.std.specs.Prelude.{◌≡◌, ℕ, ◌+◌, ◌-◌, ◌*◌, ◌<◌, cond, ◌&&◌, List, [], ◌∷◌, length, Some, None, Option, ◌==◌, nat_le, slice_index}
+use Rattle.std.specs.Prelude.{◌≡◌, ℕ, ◌+◌, ◌-◌, ◌*◌, ◌<◌, cond, ◌&&◌, List, length, Some, None, Option, ◌==◌, nat_le, slice_index}
 
 -- The value of a hexadecimal digit, in either case, by its character's code.
 abbrev pub digit_of : ℕ → Option ℕ

@@ -1,6 +1,7 @@
 //! The program: how a byte is inverted in three fields and by five routes, step by step.
 
 #![tactic(auto)]
+
 mod asking;
 mod command;
 mod hex;
@@ -12,6 +13,7 @@ mod turned;
 
 use command::Misuse;
 use std::env;
+use std::process::ExitCode;
 
 /// Says on standard error, in one line, why a command failed.
 fn report(rt: &HostRuntime, res: anyhow::Result<()>) -> anyhow::Result<()> {
@@ -21,9 +23,9 @@ fn report(rt: &HostRuntime, res: anyhow::Result<()>) -> anyhow::Result<()> {
     res
 }
 
-/// Does what the words ask for. A misuse, or a word that is no text, is one line on standard error, and status 1.
-fn main(rt: HostRuntime) -> anyhow::Result<()> {
-    let args = match env::args(&rt) {
+/// Does what the words ask for. A misuse, or a word that is no text, is one line on standard error.
+fn run(rt: &HostRuntime) -> anyhow::Result<()> {
+    let args = match env::args(rt) {
         Ok(args) => args,
         Err(error) => {
             eprintln!(rt; "janvlozer: {}; got {error}", Misuse::Words)?;
@@ -32,10 +34,18 @@ fn main(rt: HostRuntime) -> anyhow::Result<()> {
     };
     let words: Vec<String> = args.skip(1).collect(rt.alloc())?;
     match command::parse(&words) {
-        Ok(command) => report(&rt, show::show(&rt, command, &words)),
+        Ok(command) => report(rt, show::show(rt, command, &words)),
         Err(misuse) => {
             eprintln!(rt; "janvlozer: {misuse}; got {words:?}")?;
             Err(misuse.into())
         }
+    }
+}
+
+/// Status 1 where the words could not be done; what was wrong is told by then.
+fn main(rt: HostRuntime) -> ExitCode {
+    match run(&rt) {
+        Ok(()) => ExitCode::SUCCESS,
+        Err(_) => ExitCode::FAILURE,
     }
 }

@@ -1,6 +1,7 @@
 //! A script that uses every command, taken and refused, whose answers are compared with the file `stdout`.
 
 #![tactic(auto)]
+
 use console::run_script;
 
 /// Follows the script.

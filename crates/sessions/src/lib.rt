@@ -6,6 +6,7 @@
 //! at a transmitter and feeds what it left to a gateway; its contract says what the laws come to for these two ends.
 
 #![tactic(auto)]
+
 ghost use Rattle.std.specs.Prelude.{◌≡◌, true};
 ghost use Rattle.sessions.specs.Laws.{SessionLaws};
 

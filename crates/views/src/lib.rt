@@ -2,6 +2,7 @@
 //! a block turned on a route.
 
 #![tactic(auto)]
+
 mod asking;
 mod inversion;
 mod survey;

@@ -1,9 +1,8 @@
-use Rattle.std.proofs.Common.{◌≡◌, ℕ, List, [], ◌∷◌, ◌++◌, map, vec_items, ap, ◌∙◌}
-use Rattle.sessions.specs.Calls.{Call, cover, skip, remaining}
+use Rattle.std.proofs.Common.{◌≡◌, List, [], ◌∷◌, ◌++◌, map, ap, ◌∙◌}
+use Rattle.sessions.specs.Calls.{cover, skip, remaining}
 use Rattle.sessions.specs.Exchanges.{call_in}
 use Rattle.sessions.specs.declared.call.SessionCall.{SessionCall}
 use Rattle.sessions.specs.declared.call.SessionCall.TheVariants.{Cover, Skip, Remaining}
-use Rattle.console.specs.Deliveries.{reading}
 use Rattle.console.proofs.delivery.calls.Goals as goal
 
 more : {xs ys : List SessionCall} (a : SessionCall) → xs ≡ ys → xs ++ (a ∷ []) ≡ ys ++ (a ∷ [])

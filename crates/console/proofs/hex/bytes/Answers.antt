@@ -1,4 +1,4 @@
-use Rattle.std.proofs.Common.{◌≡◌, ◌+◌, ◌*◌, length, drop, vec_items, sym, ap, ◌∙◌, ap₂, arith}
+use Rattle.std.proofs.Common.{◌*◌, drop, vec_items, sym, ◌∙◌, ap₂, arith}
 use Rattle.console.specs.Words.{spelt}
 use Rattle.console.proofs.Reading.{after_all, spelt_more, spelt_none, spelt-one, spelt-all}
 use Rattle.console.proofs.hex.bytes.Goals as goal
@@ -12,7 +12,7 @@ pub loop-i-preserved : goal.loop-i-preserved
 loop-i-preserved c =
     c.loop-i.invariant
     ∙ spelt_more c.args.characters.now (vec_items c.loop-i.all) (2 * c.loop-i.i) c.in-Some.byte (omega (arith, c.loop-i-test.true)) c.in-Some.ensures
-    ∙ ap₂ (λ all n. after_all all (spelt (drop n c.args.characters.now))) (sym c.in_ok-push.ensures.items) (omega arith)
+    ∙ ap₂ (λ all n. after_all all (spelt (drop n c.args.characters.now))) (sym c.in_ok-push-in-Some.ensures.items) (omega arith)
 
 pub returns-then-characters-ne0 : goal.returns-then-characters-ne0
 returns-then-characters-ne0 c =

@@ -10,5 +10,5 @@ returns-in_err-eprintln g c = session_laws
 pub returns-in_ok-eprintln : goal.returns-in_ok-eprintln
 returns-in_ok-eprintln g c = session_laws
 
-pub returns-in-default-ended : goal.returns-in-default-ended
-returns-in-default-ended g c = session_laws
+pub returns-in_default-ended : goal.returns-in_default-ended
+returns-in_default-ended g c = session_laws

@@ -1,4 +1,4 @@
-use Rattle.std.proofs.Common.{Some, None, refl, ap, inl, inr, arith}
+use Rattle.std.proofs.Common.{Some, None, refl, inl, inr, arith}
 use Rattle.std.proofs.lemmas.Str.Pattern.{split_parts}
 use Rattle.console.proofs.word.first_word.Goals as goal
 

@@ -1,4 +1,4 @@
-use Rattle.std.proofs.Common.{◌≡◌, ℕ, List, [], ◌∷◌, length, get_or, string_bytes, Result, String, sym, ap, ◌∙◌, subst, subst₂, arith}
+use Rattle.std.proofs.Common.{◌≡◌, List, [], ◌∷◌, length, get_or, string_bytes, Result, String, sym, ◌∙◌, subst, subst₂, arith}
 use mathlib.Core.Path.{subst₃}
 use Rattle.std.specs.declared.alloc.Global.{Global}
 use Rattle.routes.specs.declared.name.RouteName.TheVariants.{Table}
