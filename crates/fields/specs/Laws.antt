@@ -2,7 +2,7 @@
 use Rattle.std.specs.Prelude.{◌≡◌, Bool, true, ◌≢◌}
 
 -- The laws of a field in which every element is its own negative, with one named element, its marker, that is t·t + t for no t:
--- so X-as-X = X + marker has no root in it, and adjoining one gives the next field of a tower.
+-- so X·X = X + marker has no root in it, and adjoining one gives the next field of a tower.
 pub record FieldLaws {F : Type 0} (zero one marker : F) (sum product : F → F → F) (inverse : F → F) (same : F → F → Bool) : Type 0 where
   pub sum_comm : (a b : F) → sum a b ≡ sum b a
   pub sum_assoc : (a b c : F) → sum (sum a b) c ≡ sum a (sum b c)

@@ -1,4 +1,4 @@
--- The pairs over a field F: hX + l, where X-as-X = X + m and m is the marker of F. Assumes nothing.
+-- The pairs over a field F: hX + l, where X·X = X + m and m is the marker of F. Assumes nothing.
 use Rattle.std.specs.Prelude.{Bool, ◌&&◌}
 use Rattle.fields.specs.declared.pair.Pair.{Pair}
 

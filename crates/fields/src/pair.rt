@@ -1,4 +1,4 @@
-//! The quadratic extension of a field by a root of X.X = X + marker.
+//! The quadratic extension of a field by a root of X·X = X + marker.
 
 ghost use Rattle.std.specs.Prelude.{◌≡◌};
 ghost use Rattle.fields.specs.Pairs.{pair_zero, pair_one, pair_marker, pair_sum, pair_product, pair_norm, pair_inverse, pair_same};
@@ -6,7 +6,7 @@ ghost use Rattle.fields.specs.PairLaws.{pair_laws};
 
 use crate::field::Field;
 
-/// The element `high`·X + `low`, where X.X = X + marker.
+/// The element `high`·X + `low`, where X·X = X + marker.
 #[derive(Clone, Copy)]
 pub struct Pair<F> {
     pub high: F,
@@ -71,7 +71,7 @@ impl<F: Field> Field for Pair<F> {
         }
     }
 
-    /// Multiplies out, and puts X + marker for X.X.
+    /// Multiplies out, and puts X + marker for X·X.
     fn product(self, other: Pair<F>) -> Pair<F> {
         let highs = self.high.product(other.high);
         let mixed = self
