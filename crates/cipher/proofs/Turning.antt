@@ -2,11 +2,12 @@
 use Rattle.std.proofs.Common.{◌≡◌, ℕ, zero, suc, ◌+◌, ◌-◌, ◌*◌, ◌/◌, ◌<◌, ◌≤◌, cond, eqb, leb, List, [], ◌∷◌, length, get_or, take, Some, None, Option, sym, refl, ap, ◌∙◌, subst, ap₂, not-suc-le-zero, arith, length-append}
 use Rattle.std.specs.Option.{option_map}
 use Rattle.routes.specs.Routes.{cap}
-use Rattle.cipher.specs.Engines.{block_verdict, Headroom}
+use Rattle.cipher.specs.Engines.{engine_key, block_verdict, Headroom, TurnedBy}
 use Rattle.cipher.specs.Keys.{key_length}
 use Rattle.cipher.specs.Fips197.{Word, word_bytes, state, state_bytes, cipher, inv_cipher, key_schedule, round_count, aes, aes_inverse}
 use Rattle.cipher.specs.Layout.{in_a_row}
 use Rattle.cipher.specs.Schedules.{schedule_key, schedule_words, schedule_rounds, turn_verdict}
+use Rattle.cipher.specs.declared.engine.Engine.{Engine}
 use Rattle.cipher.specs.declared.schedule.KeySchedule.{KeySchedule}
 use Rattle.cipher.proofs.Schedules.{schedule_is, schedule_room, schedule_word}
 
@@ -60,4 +61,17 @@ held_headroom o s n t t' is rounds told =
     subst (λ p. Headroom (option_map schedule_key p) t' (Some (n, cap - t))) (sym is) (
       ap key_length (key_bytes s) ∙ s.sized,
       ap₂ (λ (m u : ℕ). Some (m, cap - u)) (rounds ∙ ap round_count (sym (key_quarter s))) told,
+    )
+
+-- A block was turned under the schedule that an engine holds, and its rounds were counted: it was turned under the key set.
+pub turned_by :
+    {R : Type 0} (tally : R → ℕ) (turn : ℕ → List ℕ → List ℕ → List ℕ) (before after : Engine R) (s : KeySchedule) (block block' : List ℕ)
+    → before.schedule ≡ Some s → after.schedule ≡ before.schedule → block' ≡ turn (length (schedule_key s) / 4) (schedule_key s) block
+    → tally after.route ≡ tally before.route + schedule_rounds s
+    → TurnedBy tally before after turn (engine_key before) block block'
+turned_by tally turn before after s block block' held same value counted =
+    subst (λ o. TurnedBy tally before after turn o block block') (sym (ap (option_map schedule_key) held)) (
+      value,
+      ap (option_map schedule_key) (same ∙ held),
+      counted ∙ ap (λ k. tally before.route + round_count k) (sym (key_quarter s)),
     )
