@@ -1,7 +1,7 @@
 /* AES in counter mode over five proved routes, for C.
  *
  * Two functions. Each works on what it is passed and keeps nothing: no state stays behind, nothing is allocated, and both may be called from several
- * threads at once on different buffers. Link with libembed.a, which `rt staticlib embed` makes (examples/c shows how).
+ * threads at once on different buffers. Link with libembed.a, which `rt lib` makes in crates/embed/out (examples/c shows how).
  *
  * What cannot be seen from inside, and is the caller's to see to:
  *   - a null pointer, or a buffer that is shorter than the length that is passed with it. A pointer must not be null even where its length is 0;

@@ -89,9 +89,9 @@ pub record Bilinear {F : Type 0} (sum : F → F → F) (f : ℕ → ℕ → F) :
   pub left : (b : ℕ) → Additive sum (λ a. f a b)
   pub right : (a : ℕ) → Additive sum (f a)
 
-module _ {F : Type 0} (sum : F → F → F) (none : F) (Sum-self : (a : F) → sum a a ≡ none) where
+module _ {F : Type 0} (sum : F → F → F) (none : F) (sum_self : (a : F) → sum a a ≡ none) where
   pub additive_zero : (f : ℕ → F) → Additive sum f → f 0 ≡ none
-  additive_zero f af = af 0 0 ∙ Sum-self (f 0)
+  additive_zero f af = af 0 0 ∙ sum_self (f 0)
 
   -- Two additive maps that agree on each power of two below 2^k agree on every number below 2^k.
   pub agree : (f g : ℕ → F) → Additive sum f → Additive sum g → (k : ℕ) → ((i : ℕ) → i < k → f (2 ^ i) ≡ g (2 ^ i)) → (n : ℕ) → n < 2 ^ k → f n ≡ g n

@@ -42,7 +42,7 @@ fn run(rt: &HostRuntime) -> anyhow::Result<()> {
     }
 }
 
-/// Status 1 where the words could not be done; what was wrong is told by then.
+/// Status 1 where the words could not be done. What was wrong is told by then, but where memory ran short while the words were read.
 fn main(rt: HostRuntime) -> ExitCode {
     match run(&rt) {
         Ok(()) => ExitCode::SUCCESS,
