@@ -2,7 +2,7 @@
 """Brings this repository's own names in specs/ and proofs/ to the spelling of the installed kit: words in snake case, facts and types in camel case, a
 dash only between the names of two definitions. The table beside it, respell.tsv, has a line for each name, old and new.
 
-    tools/respell.py [FOLDER]      rewrites crates/ below FOLDER (or here), and the edits of tools/planted/
+    tools/respell.py [FOLDER]      rewrites crates/ below FOLDER (or here), and the edits of tools/planted/; run once, on the older spelling
 
 It changes contracts, definitions, proofs and must-fail edits. Comments, texts in quotes, code, and the names that the checker makes stay as they are.
 """
