@@ -1,4 +1,5 @@
 -- The field of two elements. Assumes nothing.
+use mathlib.Core.Bool.{beq}
 use Rattle.std.specs.Prelude.{Bool, true, false, not, ◌&&◌}
 use Rattle.fields.specs.declared.bit.Bit.{Bit}
 
@@ -16,4 +17,4 @@ abbrev pub bit_product : Bit → Bit → Bit
 bit_product a b = bit (a.value && b.value)
 
 abbrev pub bit_same : Bit → Bit → Bool
-bit_same a b = not (differ a.value b.value)
+bit_same a b = beq a.value b.value

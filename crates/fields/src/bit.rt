@@ -5,7 +5,7 @@ ghost use Rattle.fields.specs.BitLaws.{bit_laws};
 use crate::field::Field;
 
 /// A bit.
-#[derive(Clone, Copy)]
+#[derive(Clone, Copy, PartialEq, Eq, Debug)]
 pub struct Bit {
     pub value: bool,
 }
@@ -22,8 +22,6 @@ impl Field for Bit {
     ghost product = { bit_product };
 
     ghost inverse = { λ a. a };
-
-    ghost same = { bit_same };
 
     ghost laws = { bit_laws };
 
@@ -53,9 +51,5 @@ impl Field for Bit {
 
     fn inverse(self) -> Bit {
         self
-    }
-
-    fn same(self, other: Bit) -> bool {
-        self.value == other.value
     }
 }

@@ -84,11 +84,11 @@ impl ByteMap for Pair<Pair<Pair<Bit>>> {
     ghost joined = { tower_joins };
 
     fn into(byte: Byte) -> BitTower {
-        eight(image(&ROWS, byte.to_u8()))
+        eight(image(&ROWS, u8::from(byte)))
     }
 
     fn out(self) -> Byte {
-        Byte::new(image(&BACK_ROWS, self.bits()))
+        Byte::from(image(&BACK_ROWS, self.bits()))
     }
 
     fn bits(self) -> u8 {

@@ -1,8 +1,8 @@
-ghost use Rattle.std.specs.Prelude.{◌≡◌, Bool, true};
+ghost use Rattle.std.specs.Prelude.{◌≡◌};
 ghost use Rattle.fields.specs.Laws.{FieldLaws};
 
 /// A field.
-pub trait Field: Sized + Copy {
+pub trait Field: Copy + Eq {
     ghost zero: { Self };
 
     ghost one: { Self };
@@ -14,8 +14,6 @@ pub trait Field: Sized + Copy {
     ghost product: { Self → Self → Self };
 
     ghost inverse: { Self → Self };
-
-    ghost same: { Self → Self → Bool };
 
     fn zero() -> Self
         ensures { result ≡ zero };
@@ -35,8 +33,12 @@ pub trait Field: Sized + Copy {
     fn inverse(self) -> Self
         ensures { result ≡ inverse self };
 
+    /// Whether two elements are the same, as `==` tells.
     fn same(self, other: Self) -> bool
-        ensures { result ≡ same self other };
+        ensures { result ≡ Self.PartialEq.eq self other }
+    {
+        self == other
+    }
 
-    ghost laws: { FieldLaws zero one marker sum product inverse same };
+    ghost laws: { FieldLaws zero one marker sum product inverse Self.PartialEq.eq };
 }

@@ -65,7 +65,7 @@ impl ByteMap for Byte {
     }
 
     fn bits(self) -> u8 {
-        self.to_u8()
+        u8::from(self)
     }
 
     fn images() -> [u8; 8] {

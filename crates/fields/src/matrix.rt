@@ -14,8 +14,8 @@ pub(crate) fn image(rows: &[u8; 8], byte: u8) -> u8
     ensures { result ≡ by_rows rows.now byte }
 {
     let mut image = 0;
-    for i in 0..8usize {
-        image += parity(rows[i], byte) << i;
+    for (i, row) in rows.iter().enumerate() {
+        image += parity(*row, byte) << i;
     }
     image
 }

@@ -4,17 +4,17 @@ ghost use Rattle.std.specs.Prelude.{◌≡◌, T, nat_lt};
 pub mod field;
 
 /// An element of the field of sixteen elements: bit i stands for x^i. No nibble that exists is above 15.
-#[derive(Clone, Copy)]
+#[derive(Clone, Copy, PartialEq, Eq, Debug)]
 pub struct Nibble {
     value: u8,
     ghost small: { T (nat_lt value 16) },
 }
 
-impl Nibble {
-    /// The bits of the element, below 16.
-    pub fn to_u8(self) -> u8
-        ensures { result ≡ self.value }
-    {
-        self.value
+/// The bits of an element, below 16.
+impl From<Nibble> for u8 {
+    ghost from_gives = { λ nibble value. value ≡ nibble.value };
+
+    fn from(nibble: Nibble) -> u8 {
+        nibble.value
     }
 }

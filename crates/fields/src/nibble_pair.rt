@@ -46,15 +46,15 @@ impl ByteMap for Pair<Nibble> {
     ghost joined = { nibbles_join };
 
     fn into(byte: Byte) -> NibblePair {
-        split(image(&ROWS, byte.to_u8()))
+        split(image(&ROWS, u8::from(byte)))
     }
 
     fn out(self) -> Byte {
-        Byte::new(image(&BACK_ROWS, self.bits()))
+        Byte::from(image(&BACK_ROWS, self.bits()))
     }
 
     fn bits(self) -> u8 {
-        self.high.to_u8() * 16 + self.low.to_u8()
+        u8::from(self.high) * 16 + u8::from(self.low)
     }
 
     fn images() -> [u8; 8]

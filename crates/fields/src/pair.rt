@@ -7,7 +7,7 @@ ghost use Rattle.fields.specs.PairLaws.{pair_laws};
 use crate::field::Field;
 
 /// The element `high`·X + `low`, where X·X = X + marker.
-#[derive(Clone, Copy)]
+#[derive(Clone, Copy, PartialEq, Eq, Debug)]
 pub struct Pair<F> {
     pub high: F,
     pub low: F,
@@ -38,8 +38,6 @@ impl<F: Field> Field for Pair<F> {
     ghost product = { pair_product F.Field.marker F.Field.sum F.Field.product };
 
     ghost inverse = { pair_inverse F.Field.marker F.Field.sum F.Field.product F.Field.inverse };
-
-    ghost same = { pair_same F.Field.same };
 
     ghost laws = { pair_laws F.Field.laws };
 
@@ -92,10 +90,5 @@ impl<F: Field> Field for Pair<F> {
             high: self.high.product(scale),
             low: self.high.sum(self.low).product(scale),
         }
-    }
-
-    /// Whether both halves agree; with no branch.
-    fn same(self, other: Pair<F>) -> bool {
-        self.high.same(other.high) & self.low.same(other.low)
     }
 }

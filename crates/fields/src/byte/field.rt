@@ -7,11 +7,11 @@ use crate::byte::Byte;
 use crate::field::Field;
 use crate::modular::multiply;
 
-impl Byte {
-    /// The element that the bits of `value` stand for.
-    pub fn new(value: u8) -> Byte
-        ensures { result ≡ byte value }
-    {
+/// The element that the bits of a number stand for.
+impl From<u8> for Byte {
+    ghost from_gives = { λ value element. element ≡ byte value };
+
+    fn from(value: u8) -> Byte {
         Byte { value }
     }
 }
@@ -29,28 +29,26 @@ impl Field for Byte {
 
     ghost inverse = { byte_inverse };
 
-    ghost same = { byte_same };
-
     ghost laws = { byte_laws };
 
     fn zero() -> Byte {
-        Byte::new(0)
+        Byte::from(0)
     }
 
     fn one() -> Byte {
-        Byte::new(1)
+        Byte::from(1)
     }
 
     fn marker() -> Byte {
-        Byte::new(0x20)
+        Byte::from(0x20)
     }
 
     fn sum(self, other: Byte) -> Byte {
-        Byte::new(self.value ^ other.value)
+        Byte::from(self.value ^ other.value)
     }
 
     fn product(self, other: Byte) -> Byte {
-        Byte::new(multiply::<8, 0x11B>(self.value, other.value))
+        Byte::from(multiply::<8, 0x11B>(self.value, other.value))
     }
 
     fn inverse(self) -> Byte {
@@ -65,9 +63,5 @@ impl Field for Byte {
         let a240 = a120.product(a120);
         let a252 = a240.product(a12);
         a252.product(a2)
-    }
-
-    fn same(self, other: Byte) -> bool {
-        self.value == other.value
     }
 }

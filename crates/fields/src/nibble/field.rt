@@ -36,8 +36,6 @@ impl Field for Nibble {
 
     ghost inverse = { nibble_inverse };
 
-    ghost same = { nibble_same };
-
     ghost laws = { nibble_laws };
 
     fn zero() -> Nibble {
@@ -64,14 +62,10 @@ impl Field for Nibble {
     fn inverse(self) -> Nibble {
         for value in 1..16u8 {
             let trial = Nibble::low(value);
-            if self.product(trial).same(Self::one()) {
+            if self.product(trial) == Self::one() {
                 return trial;
             }
         }
         Self::zero()
-    }
-
-    fn same(self, other: Nibble) -> bool {
-        self.value == other.value
     }
 }

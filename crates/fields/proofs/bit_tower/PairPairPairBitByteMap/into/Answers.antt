@@ -6,4 +6,4 @@ use Rattle.fields.specs.TowerJoins.{tower_tables}
 use Rattle.fields.proofs.bit_tower.PairPairPairBitByteMap.into.Goals as goal
 
 pub returns : goal.returns
-returns c = c.eight.ensures ∙ ap make_tower (c.image.ensures ∙ forth_by_rows tower_tables c.to_u8.result c.to_u8.type_inv ∙ ap (by_columns tower_columns) c.to_u8.ensures)
+returns c = c.eight.ensures ∙ ap make_tower (c.image.ensures ∙ forth_by_rows tower_tables c.from.result c.from.type_inv ∙ ap (by_columns tower_columns) c.from.ensures)

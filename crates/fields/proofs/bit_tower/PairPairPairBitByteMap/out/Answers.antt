@@ -7,4 +7,4 @@ use Rattle.fields.specs.TowerJoins.{tower_tables}
 use Rattle.fields.proofs.bit_tower.PairPairPairBitByteMap.out.Goals as goal
 
 pub returns : goal.returns
-returns c = c.new.ensures ∙ ap byte (c.image.ensures ∙ back_by_rows tower_tables c.bits.result c.bits.type_inv ∙ ap (by_columns tower_back) c.bits.ensures)
+returns c = c.from.ensures ∙ ap byte (c.image.ensures ∙ back_by_rows tower_tables c.bits.result c.bits.type_inv ∙ ap (by_columns tower_back) c.bits.ensures)

@@ -6,4 +6,4 @@ use Rattle.fields.specs.TowerJoins.{nibble_tables}
 use Rattle.fields.proofs.nibble_pair.PairNibbleByteMap.into.Goals as goal
 
 pub returns : goal.returns
-returns c = c.split.ensures ∙ ap make_nibbles (c.image.ensures ∙ forth_by_rows nibble_tables c.to_u8.result c.to_u8.type_inv ∙ ap (by_columns nibble_columns) c.to_u8.ensures)
+returns c = c.split.ensures ∙ ap make_nibbles (c.image.ensures ∙ forth_by_rows nibble_tables c.from.result c.from.type_inv ∙ ap (by_columns nibble_columns) c.from.ensures)

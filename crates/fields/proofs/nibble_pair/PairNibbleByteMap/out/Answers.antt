@@ -7,4 +7,4 @@ use Rattle.fields.specs.TowerJoins.{nibble_tables}
 use Rattle.fields.proofs.nibble_pair.PairNibbleByteMap.out.Goals as goal
 
 pub returns : goal.returns
-returns c = c.new.ensures ∙ ap byte (c.image.ensures ∙ back_by_rows nibble_tables c.bits.result c.bits.type_inv ∙ ap (by_columns nibble_back) c.bits.ensures)
+returns c = c.from.ensures ∙ ap byte (c.image.ensures ∙ back_by_rows nibble_tables c.bits.result c.bits.type_inv ∙ ap (by_columns nibble_back) c.bits.ensures)

@@ -3,4 +3,4 @@ use Rattle.fields.specs.Bytes.{byte}
 use Rattle.fields.proofs.byte.field.ByteField.product.Goals as goal
 
 pub returns : goal.returns
-returns c = c.new.ensures ∙ ap byte c.multiply.ensures.value
+returns c = c.from.ensures ∙ ap byte c.multiply.ensures.value

@@ -6,16 +6,16 @@ use Rattle.fields.specs.WordLaws.{nibble_laws, none_fits}
 use Rattle.fields.proofs.nibble.field.NibbleField.inverse.Goals as goal
 use Rattle.std.proofs.lemmas.Bool.{cases_eq}
 
-pub returns-then-same : goal.returns-then-same
-returns-then-same c =
+pub returns-then-eq : goal.returns-then-eq
+returns-then-eq c =
     inverse_unique nibble_laws c.args.self c.low-trial.result
-    (sym c.product.ensures ∙ nibble_laws.same_means _ _ (sym c.if-same.ensures) ∙ c.one.ensures)
+    (sym c.product.ensures ∙ nibble_laws.same_means _ _ (sym c.if-eq.ensures) ∙ c.one.ensures)
 
 pub loop-value-preserved : goal.loop-value-preserved
 loop-value-preserved c t low high fits =
     ⊎_elim
     (λ (e : t ≡ c.loop-value.value).
-    false≢true (c.if-same.ensures ∙ nibble_laws.same_holds _ _
+    false≢true (c.if-eq.ensures ∙ nibble_laws.same_holds _ _
     (c.product.ensures ∙ ap (nibble_product c.args.self) (c.low-trial.ensures ∙ ap nibble (sym e)) ∙ fits ∙ sym c.one.ensures)))
     (λ (ne : t ≡ c.loop-value.value → ⊥). let below : t < c.loop-value.value = omega arith in c.loop-value.invariant t low below fits)
     (cases_eq t c.loop-value.value)
