@@ -30,32 +30,21 @@ const BACK_ROWS: [u8; 8] = [0xF1, 0xF0, 0xA6, 0x86, 0x9E, 0x3A, 0xB4, 0xBA];
 fn two(n: u8) -> Pair<Bit>
     ensures { result ≡ make_pair make_bit 2 n }
 {
-    Pair {
-        high: Bit {
-            value: n / 2 % 2 == 1,
-        },
-        low: Bit { value: n % 2 == 1 },
-    }
+    Pair::from_digits(n, 2, |n| Bit { value: n % 2 == 1 })
 }
 
 /// The pair of pairs that the four lowest bits of `n` are read as.
 fn four(n: u8) -> Pair<Pair<Bit>>
     ensures { result ≡ make_pair (make_pair make_bit 2) 4 n }
 {
-    Pair {
-        high: two(n / 4),
-        low: two(n % 4),
-    }
+    Pair::from_digits(n, 4, two)
 }
 
 /// The element that a byte is read as: at every level its high half is the high half of the pair.
 fn eight(byte: u8) -> BitTower
     ensures { result ≡ make_tower byte }
 {
-    Pair {
-        high: four(byte / 16),
-        low: four(byte % 16),
-    }
+    Pair::from_digits(byte, 16, four)
 }
 
 /// The number below 4 that a pair of bits is read as.
@@ -63,7 +52,7 @@ fn read_two(p: Pair<Bit>) -> u8
     ensures value { result ≡ read_pair read_bit 2 p }
     ensures bound { result < 4 }
 {
-    u8::from(p.high.value) * 2 + u8::from(p.low.value)
+    p.digits(2, |bit| u8::from(bit.value))
 }
 
 /// The number below 16 that a pair of such pairs is read as.
@@ -71,9 +60,10 @@ fn read_four(p: Pair<Pair<Bit>>) -> u8
     ensures value { result ≡ read_pair (read_pair read_bit 2) 4 p }
     ensures bound { result < 16 }
 {
-    read_two(p.high) * 4 + read_two(p.low)
+    p.digits(4, read_two)
 }
 
+/// One impl for each pile: they share `image`, and what is left differs in its tables and in what its contracts say of them.
 impl ByteMap for Pair<Pair<Pair<Bit>>> {
     ghost into = { into_tower };
 
@@ -92,7 +82,7 @@ impl ByteMap for Pair<Pair<Pair<Bit>>> {
     }
 
     fn bits(self) -> u8 {
-        read_four(self.high) * 16 + read_four(self.low)
+        self.digits(16, read_four)
     }
 
     fn images() -> [u8; 8]

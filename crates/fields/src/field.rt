@@ -15,21 +15,27 @@ pub trait Field: Copy + Eq {
 
     ghost inverse: { Self → Self };
 
+    /// The neutral element of the sum.
     fn zero() -> Self
         ensures { result ≡ zero };
 
+    /// The neutral element of the product.
     fn one() -> Self
         ensures { result ≡ one };
 
+    /// One named element m, such that X·X = X + m has no root in the field.
     fn marker() -> Self
         ensures { result ≡ marker };
 
+    /// The sum of two elements.
     fn sum(self, other: Self) -> Self
         ensures { result ≡ sum self other };
 
+    /// The product of two elements.
     fn product(self, other: Self) -> Self
         ensures { result ≡ product self other };
 
+    /// The element whose product with this one is one; zero for zero.
     fn inverse(self) -> Self
         ensures { result ≡ inverse self };
 

@@ -46,6 +46,9 @@ pub fn invert_through<F: ByteMap>(byte: Byte) -> Byte
     F::into(byte).inverse().out()
 }
 
+/// The powers of x below x^8.
+const POWERS: [u8; 8] = [0x01, 0x02, 0x04, 0x08, 0x10, 0x20, 0x40, 0x80];
+
 /// The byte field is joined to itself by the map that alters nothing.
 impl ByteMap for Byte {
     ghost into = { λ b. b };
@@ -69,10 +72,10 @@ impl ByteMap for Byte {
     }
 
     fn images() -> [u8; 8] {
-        [0x01, 0x02, 0x04, 0x08, 0x10, 0x20, 0x40, 0x80]
+        POWERS
     }
 
     fn sources() -> [u8; 8] {
-        [0x01, 0x02, 0x04, 0x08, 0x10, 0x20, 0x40, 0x80]
+        POWERS
     }
 }

@@ -34,6 +34,7 @@ pub(crate) fn multiply<const DEGREE: u32, const MODULUS: u16>(a: u8, b: u8) -> u
 {
     let mut product = 0;
     let mut shifted = a;
+    // i is a power of x and no place in a list.
     for i in 0..DEGREE {
         product ^= keep(shifted, b >> i & 1);
         shifted = times_x::<DEGREE, MODULUS>(shifted);

@@ -4,6 +4,9 @@ ghost use Rattle.std.specs.Prelude.{◌≡◌, T, nat_lt};
 pub mod field;
 
 /// An element of the field of sixteen elements: bit i stands for x^i. No nibble that exists is above 15.
+///
+/// Byte and nibble stay two structs: sum and product are one line each over `multiply`, which is generic, and the inverses differ, so a struct
+/// over degree and polynomial would need the same two impls of `Field` and a law on its parameters besides.
 #[derive(Clone, Copy, PartialEq, Eq, Debug)]
 pub struct Nibble {
     value: u8,

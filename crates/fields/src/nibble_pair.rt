@@ -30,12 +30,10 @@ const BACK_ROWS: [u8; 8] = [0x51, 0xB0, 0x72, 0xB2, 0x5A, 0xA4, 0xEE, 0x24];
 fn split(byte: u8) -> NibblePair
     ensures { result ≡ make_nibbles byte }
 {
-    Pair {
-        high: Nibble::high(byte),
-        low: Nibble::low(byte),
-    }
+    Pair::from_digits(byte, 16, Nibble::low)
 }
 
+/// One impl for each pile: they share `image`, and what is left differs in its tables and in what its contracts say of them.
 impl ByteMap for Pair<Nibble> {
     ghost into = { into_nibbles };
 
@@ -54,7 +52,7 @@ impl ByteMap for Pair<Nibble> {
     }
 
     fn bits(self) -> u8 {
-        u8::from(self.high) * 16 + u8::from(self.low)
+        self.digits(16, |nibble| u8::from(nibble))
     }
 
     fn images() -> [u8; 8]

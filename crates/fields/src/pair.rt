@@ -1,6 +1,6 @@
 //! The quadratic extension of a field by a root of X·X = X + marker.
 
-ghost use Rattle.std.specs.Prelude.{◌≡◌};
+ghost use Rattle.std.specs.Prelude.{◌≡◌, ℕ, ◌+◌, ◌*◌, ◌/◌, ◌%◌, ◌<◌, ◌≤◌};
 ghost use Rattle.fields.specs.Pairs.{pair_zero, pair_one, pair_marker, pair_sum, pair_product, pair_norm, pair_inverse, pair_same};
 ghost use Rattle.fields.specs.PairLaws.{pair_laws};
 
@@ -11,6 +11,31 @@ use crate::field::Field;
 pub struct Pair<F> {
     pub high: F,
     pub low: F,
+}
+
+impl<F> Pair<F> {
+    /// The pair whose halves are read off the two digits of `n` in a base, the high one first.
+    pub(crate) fn from_digits<H: Fn(u8) -> F>(n: u8, base: u8, half: H) -> Pair<F>
+        requires positive { 0 < base }
+        requires callable { H.IsAlwaysCallable half }
+        ensures high { H.post half (n / base) result.high }
+        ensures low { H.post half (n % base) result.low }
+    {
+        Pair {
+            high: half(n / base),
+            low: half(n % base),
+        }
+    }
+
+    /// The number whose two digits in a base are read off the halves.
+    pub(crate) fn digits<H: Fn(F) -> u8>(self, base: u8, half: H) -> u8
+        requires few { base ≤ 16 }
+        requires callable { H.IsAlwaysCallable half }
+        requires below { (x : F) (digit : ℕ) → H.post half x digit → digit < base }
+        ensures { (high low : ℕ) × H.post half self.high high × H.post half self.low low × (result ≡ high * base + low) }
+    {
+        half(self.high) * base + half(self.low)
+    }
 }
 
 impl<F: Field> Pair<F> {
