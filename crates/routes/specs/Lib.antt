@@ -1,3 +1,4 @@
+pub mod AdditivePowers
 pub mod AnyRoutes
 pub mod Figures
 pub mod Formulas

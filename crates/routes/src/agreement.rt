@@ -4,24 +4,18 @@ ghost use Rattle.fields.specs.Figures.{field_figures, ComeOut};
 ghost use Rattle.routes.specs.Inverting.{Determined};
 ghost use Rattle.routes.specs.Figures.{route_figures};
 
-use crate::field::FieldFormula;
 use crate::formula::Formula;
-use crate::power::PowerFormula;
-use crate::split::SplitFormula;
-use crate::table::TableFormula;
-use fields::{BitTower, NibblePair};
+use crate::name::RouteName;
 
 /// Whether the five formulas give the same inverse of a byte. They always do, since what it is to invert a byte determines the answer.
 pub fn formulas_agree(byte: u8) -> bool
     ensures agree { result ≡ true }
     ensures determined { Determined }
 {
-    let power = PowerFormula::inverse(byte);
-    let split = SplitFormula::inverse(byte);
-    let table = TableFormula::inverse(byte);
-    let pair = FieldFormula::<NibblePair>::inverse(byte);
-    let tower = FieldFormula::<BitTower>::inverse(byte);
-    (power == split) & (power == table) & (power == pair) & (power == tower)
+    let power = RouteName::Power.inverse(byte);
+    RouteName::ALL
+        .iter()
+        .all(|name| name.inverse(byte) == power)
 }
 
 /// How many worked figures there are of fields and routes. Its contract says that each of them comes out as published.

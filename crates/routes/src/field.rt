@@ -59,23 +59,31 @@ pub fn field_steps<F: ByteMap>(a: u8) -> FieldSteps
     ensures inverted { result.image_inverse ≡ F.ByteMap.bits (F.Field.inverse (F.ByteMap.into (byte a))) }
     ensures inverse { Inverts a result.inverse }
 {
-    let image = F::into(Byte::new(a));
+    let image = F::into(Byte::from(a));
     let image_inverse = image.inverse();
     FieldSteps {
         image: image.bits(),
         image_inverse: image_inverse.bits(),
-        inverse: image_inverse.out().to_u8(),
+        inverse: u8::from(image_inverse.out()),
     }
 }
 
 impl<F: NamedField> Formula for FieldFormula<F> {
-    ghost called = { F.NamedField.titled };
+    type Choice = ();
 
-    fn called() -> &'static str {
+    ghost called = { λ _. F.NamedField.titled };
+
+    ghost chosen = { λ _. F.NamedField.titled };
+
+    fn new(_choice: ()) -> FieldFormula<F> {
+        FieldFormula { field: PhantomData }
+    }
+
+    fn called(&self) -> &'static str {
         F::title()
     }
 
-    fn inverse(byte: u8) -> u8 {
+    fn inverse(&self, byte: u8) -> u8 {
         field_steps::<F>(byte).inverse
     }
 }

@@ -4,7 +4,7 @@ ghost use Rattle.fields.specs.Bytes.{byte};
 ghost use Rattle.routes.specs.Formulas.{byte_power, twisted};
 ghost use Rattle.routes.specs.Inverting.{Inverts};
 
-use crate::additive_power::{fourth_power, sixteenth_power, sixty_fourth_power};
+use crate::additive_power::AdditivePower;
 use crate::formula::Formula;
 use crate::metered::Metered;
 use crate::select::or_else;
@@ -29,9 +29,9 @@ pub struct PowerSteps {
 fn eighty_fourth(a: Byte) -> Byte
     ensures { result ≡ byte_power 84 a }
 {
-    let a4 = fourth_power(a);
-    let a16 = sixteenth_power(a);
-    let a64 = sixty_fourth_power(a);
+    let a4 = AdditivePower::Fourth.of(a);
+    let a16 = AdditivePower::Sixteenth.of(a);
+    let a64 = AdditivePower::SixtyFourth.of(a);
     let a20 = a4.product(a16);
     a20.product(a64)
 }
@@ -43,26 +43,34 @@ impl PowerFormula {
         ensures r { result.r ≡ twisted (byte a) result.s }
         ensures inverse { Inverts a result.inverse }
     {
-        let element = Byte::new(a);
+        let element = Byte::from(a);
         let s = eighty_fourth(element);
         // Both products have s first: what it is times the powers of x is worked out once.
         let r = s.product(s.product(element)).sum(s);
         PowerSteps {
             s,
             r,
-            inverse: or_else(r.to_u8(), s.to_u8()),
+            inverse: or_else(u8::from(r), u8::from(s)),
         }
     }
 }
 
 impl Formula for PowerFormula {
-    ghost called = { codes "power" };
+    type Choice = ();
 
-    fn called() -> &'static str {
+    ghost called = { λ _. codes "power" };
+
+    ghost chosen = { λ _. codes "power" };
+
+    fn new(_choice: ()) -> PowerFormula {
+        PowerFormula
+    }
+
+    fn called(&self) -> &'static str {
         "power"
     }
 
-    fn inverse(byte: u8) -> u8 {
+    fn inverse(&self, byte: u8) -> u8 {
         Self::steps(byte).inverse
     }
 }

@@ -52,14 +52,14 @@ impl Refusal {
     {
         match self {
             Refusal::NoKey => 0,
-            Refusal::KeyLength(n) => n,
-            Refusal::BlockLength(n) => n,
-            Refusal::RunLength(n) => n,
             Refusal::Remaining(n) => n,
-            Refusal::Inversions(n) => n,
-            Refusal::PrefixLength(n) => n,
-            Refusal::OpeningNumber(n) => n,
-            Refusal::StartingTally(n) => n,
+            Refusal::KeyLength(n)
+            | Refusal::BlockLength(n)
+            | Refusal::RunLength(n)
+            | Refusal::Inversions(n)
+            | Refusal::PrefixLength(n)
+            | Refusal::OpeningNumber(n)
+            | Refusal::StartingTally(n) => n,
         }
     }
 }

@@ -18,7 +18,7 @@ pub(crate) fn or_else(first: u8, second: u8) -> u8
 }
 
 /// Bit `place` of a byte.
-pub(crate) fn bit(byte: u8, place: u32) -> u8
+pub(crate) fn bit(byte: u8, place: usize) -> u8
     requires { place < 8 }
     ensures value { result ≡ coefficient place byte }
     ensures bound { result < 2 }

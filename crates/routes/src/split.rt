@@ -4,7 +4,7 @@ ghost use Rattle.fields.specs.Bytes.{byte, byte_sum, byte_product};
 ghost use Rattle.routes.specs.Formulas.{byte_power, by_bits, fourth, eighth};
 ghost use Rattle.routes.specs.Inverting.{Inverts};
 
-use crate::additive_power::sixteenth_power;
+use crate::additive_power::AdditivePower;
 use crate::formula::Formula;
 use crate::metered::Metered;
 use crate::select::{bit, keep, or_else};
@@ -43,31 +43,39 @@ impl SplitFormula {
         ensures t { result.t ≡ byte_sum (byte_product result.b result.b8) result.b4 }
         ensures inverse { Inverts a result.inverse }
     {
-        let element = Byte::new(a);
-        let a16 = sixteenth_power(element);
+        let element = Byte::from(a);
+        let a16 = AdditivePower::Sixteenth.of(element);
         let b = a16.product(element);
-        let b4 = Byte::new(sum_by_bits(0xB0, 0xE1, 0x0C, b.to_u8()));
-        let b8 = Byte::new(sum_by_bits(0xED, 0x5C, 0x50, b.to_u8()));
+        let b4 = Byte::from(sum_by_bits(0xB0, 0xE1, 0x0C, u8::from(b)));
+        let b8 = Byte::from(sum_by_bits(0xED, 0x5C, 0x50, u8::from(b)));
         let t = b.product(b8).sum(b4);
-        let inverse_of_b = Byte::new(or_else(t.to_u8(), b4.to_u8()));
+        let inverse_of_b = Byte::from(or_else(u8::from(t), u8::from(b4)));
         SplitSteps {
             b,
             b4,
             b8,
             t,
-            inverse: a16.product(inverse_of_b).to_u8(),
+            inverse: u8::from(a16.product(inverse_of_b)),
         }
     }
 }
 
 impl Formula for SplitFormula {
-    ghost called = { codes "split" };
+    type Choice = ();
 
-    fn called() -> &'static str {
+    ghost called = { λ _. codes "split" };
+
+    ghost chosen = { λ _. codes "split" };
+
+    fn new(_choice: ()) -> SplitFormula {
+        SplitFormula
+    }
+
+    fn called(&self) -> &'static str {
         "split"
     }
 
-    fn inverse(byte: u8) -> u8 {
+    fn inverse(&self, byte: u8) -> u8 {
         Self::steps(byte).inverse
     }
 }

@@ -4,7 +4,7 @@ ghost use Rattle.fields.specs.Bytes.{byte};
 ghost use Rattle.routes.specs.Formulas.{byte_power, table_index, inverse_table};
 ghost use Rattle.routes.specs.Inverting.{Inverts};
 
-use crate::additive_power::sixteenth_power;
+use crate::additive_power::AdditivePower;
 use crate::formula::Formula;
 use crate::metered::Metered;
 use crate::select::{bit, keep};
@@ -45,8 +45,8 @@ fn entry_at(index: u8) -> u8
     ensures { result ≡ slice_index inverse_table index }
 {
     let mut found = 0;
-    for i in 0..16u8 {
-        found ^= keep(INVERSES[i as usize], i == index);
+    for (i, entry) in INVERSES.iter().enumerate() {
+        found ^= keep(*entry, i == usize::from(index));
     }
     found
 }
@@ -59,28 +59,36 @@ impl TableFormula {
         ensures entry { result.entry ≡ slice_index inverse_table result.index }
         ensures inverse { Inverts a result.inverse }
     {
-        let element = Byte::new(a);
-        let a16 = sixteenth_power(element);
+        let element = Byte::from(a);
+        let a16 = AdditivePower::Sixteenth.of(element);
         let b = a16.product(element);
-        let index = index_of(b.to_u8());
+        let index = index_of(u8::from(b));
         let entry = entry_at(index);
         TableSteps {
             b,
             index,
             entry,
-            inverse: a16.product(Byte::new(entry)).to_u8(),
+            inverse: u8::from(a16.product(Byte::from(entry))),
         }
     }
 }
 
 impl Formula for TableFormula {
-    ghost called = { codes "table" };
+    type Choice = ();
 
-    fn called() -> &'static str {
+    ghost called = { λ _. codes "table" };
+
+    ghost chosen = { λ _. codes "table" };
+
+    fn new(_choice: ()) -> TableFormula {
+        TableFormula
+    }
+
+    fn called(&self) -> &'static str {
         "table"
     }
 
-    fn inverse(byte: u8) -> u8 {
+    fn inverse(&self, byte: u8) -> u8 {
         Self::steps(byte).inverse
     }
 }

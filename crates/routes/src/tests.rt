@@ -16,7 +16,7 @@ fn row(high: u8) -> [u8; 16] {
 /// Each of sixteen bytes is the byte field's inverse of the one at the same place.
 fn check_inverted(rt: &impl Abort, before: [u8; 16], after: [u8; 16]) {
     for i in 0..16usize {
-        assert_eq!(rt; after[i], Byte::new(before[i]).inverse().to_u8());
+        assert_eq!(rt; after[i], u8::from(Byte::from(before[i]).inverse()));
     }
 }
 

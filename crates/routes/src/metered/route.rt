@@ -6,44 +6,31 @@ use crate::formula::{Formula, invert_all};
 use crate::metered::Metered;
 use crate::refusal::Refusal;
 use crate::route::{CAP, Route};
-use std::marker::PhantomData;
-
-impl<F> Metered<F> {
-    /// A route that nobody has asked, to stand in a place that is to be filled.
-    pub(crate) fn unused() -> Metered<F>
-        ensures { result.tally ≡ 0 }
-    {
-        Metered {
-            formula: PhantomData,
-            tally: 0,
-        }
-    }
-}
 
 impl<F: Formula> Route for Metered<F> {
-    type Choice = ();
+    type Choice = F::Choice;
 
     ghost tally = { λ m. m.tally };
 
-    ghost name = { λ _. F.Formula.called };
+    ghost name = { λ m. F.Formula.called m.formula };
 
-    ghost called = { λ _. F.Formula.called };
+    ghost called = { F.Formula.chosen };
 
     ghost capped = { first_of (Prim.search rules, Prim.grind (arith, Self.row.coded.inj)) };
 
-    fn new(_choice: (), start: u64) -> Result<Metered<F>, Refusal> {
+    fn new(choice: F::Choice, start: u64) -> Result<Metered<F>, Refusal> {
         if start > CAP {
             return Err(Refusal::StartingTally(start));
         }
         Ok(Metered {
-            formula: PhantomData,
+            formula: F::new(choice),
             tally: start,
         })
     }
 
     fn invert(&mut self, bytes: &mut [u8; 16]) {
         if self.tally < CAP {
-            invert_all::<F>(bytes);
+            invert_all(&self.formula, bytes);
             self.tally += 1;
         } else {
             *bytes = [0; 16];
@@ -55,6 +42,6 @@ impl<F: Formula> Route for Metered<F> {
     }
 
     fn name(&self) -> &str {
-        F::called()
+        self.formula.called()
     }
 }

@@ -8,15 +8,15 @@ use Rattle.routes.proofs.table.TableFormula.steps.Goals as goal
 pub returns : goal.returns
 returns c =
     let a = c.args.a in
-    let is_a16 = c.sixteenth_power-a16.ensures ∙ ap (byte_power 16) c.new-element.ensures in
-    let is_b = c.product-b.ensures ∙ ap (byte_product c.sixteenth_power-a16.result) c.new-element.ensures in
-    let is-index = c.index_of-index.ensures.value ∙ ap table_index c.to_u8.ensures in
+    let is_a16 = c.of-a16.ensures ∙ ap (byte_power 16) c.from-element.ensures in
+    let is_b = c.product-b.ensures ∙ ap (byte_product c.of-a16.result) c.from-element.ensures in
+    let is-index = c.index_of-index.ensures.value ∙ ap table_index c.from.ensures in
     record {
-      b = seventeenth a (omega arith) c.sixteenth_power-a16.result c.product-b.result is_a16 is_b;
+      b = seventeenth a (omega arith) c.of-a16.result c.product-b.result is_a16 is_b;
       index = is-index;
       entry = c.entry_at-entry.ensures;
       inverse =
-          subst (Inverts a) (sym (c.to_u8-2.ensures ∙ ap (λ x. x.value) c.product.ensures))
-          (table_inverts a (omega arith) c.sixteenth_power-a16.result c.product-b.result is_a16 is_b c.new.result
-          (c.new.ensures ∙ ap byte (c.entry_at-entry.ensures ∙ ap (λ i. get_or inverse_table i 0) is-index)));
+          subst (Inverts a) (sym (c.from-3.ensures ∙ ap (λ x. x.value) c.product.ensures))
+          (table_inverts a (omega arith) c.of-a16.result c.product-b.result is_a16 is_b c.from-2.result
+          (c.from-2.ensures ∙ ap byte (c.entry_at-entry.ensures ∙ ap (λ i. get_or inverse_table i 0) is-index)));
     }
