@@ -25,7 +25,7 @@ pub use any_route::AnyRoute;
 pub use field::{ByBitTower, ByNibblePair, FieldFormula, FieldSteps, NamedField, field_steps};
 pub use formula::Formula;
 pub use metered::Metered;
-pub use name::RouteName;
+pub use name::{RouteName, UnknownRoute};
 pub use power::{Power, PowerFormula, PowerSteps};
 pub use refusal::Refusal;
 pub use route::{CAP, Route};

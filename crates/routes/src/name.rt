@@ -1,6 +1,10 @@
 //! The five routes by name.
 ghost use Rattle.std.specs.Prelude.{◌≡◌};
-ghost use Rattle.routes.specs.Names.{name_text, Named};
+ghost use Rattle.routes.specs.Names.{name_text, Named, ok_of, route_at};
+
+use std::error::Error;
+use std::fmt;
+use std::str::FromStr;
 
 /// The name of a route.
 #[derive(Clone, Copy, PartialEq, Eq, Debug)]
@@ -35,17 +39,61 @@ impl RouteName {
         }
     }
 
-    /// The route that a text names, or none.
-    pub fn parse(text: &str) -> Option<RouteName>
-        ensures { Named text.now result }
-    {
+}
+
+impl fmt::Display for RouteName {
+    fn fmt<W: fmt::Write>(&self, f: &mut fmt::Formatter<W>) -> fmt::Result {
+        f.pad(self.text())
+    }
+}
+
+/// A text or a number that names no route.
+#[derive(Clone, Copy, PartialEq, Eq, Debug)]
+pub struct UnknownRoute;
+
+impl fmt::Display for UnknownRoute {
+    fn fmt<W: fmt::Write>(&self, f: &mut fmt::Formatter<W>) -> fmt::Result {
+        write!(
+            f,
+            "power, split, table, nibble-pair or bit-tower was expected"
+        )
+    }
+}
+
+impl Error for UnknownRoute {}
+
+/// The route that a text names.
+impl FromStr for RouteName {
+    type Err = UnknownRoute;
+
+    ghost from_str_gives = { λ text r. Named text (ok_of r) };
+
+    fn from_str(text: &str) -> Result<RouteName, UnknownRoute> {
         match text {
-            "power" => Some(RouteName::Power),
-            "split" => Some(RouteName::Split),
-            "table" => Some(RouteName::Table),
-            "nibble-pair" => Some(RouteName::NibblePair),
-            "bit-tower" => Some(RouteName::BitTower),
-            _ => None,
+            "power" => Ok(RouteName::Power),
+            "split" => Ok(RouteName::Split),
+            "table" => Ok(RouteName::Table),
+            "nibble-pair" => Ok(RouteName::NibblePair),
+            "bit-tower" => Ok(RouteName::BitTower),
+            _ => Err(UnknownRoute),
+        }
+    }
+}
+
+/// The route that a number from 0 to 4 names.
+impl TryFrom<u32> for RouteName {
+    type Error = UnknownRoute;
+
+    ghost try_from_gives = { λ number r. ok_of r ≡ route_at number };
+
+    fn try_from(number: u32) -> Result<RouteName, UnknownRoute> {
+        match number {
+            0 => Ok(RouteName::Power),
+            1 => Ok(RouteName::Split),
+            2 => Ok(RouteName::Table),
+            3 => Ok(RouteName::NibblePair),
+            4 => Ok(RouteName::BitTower),
+            _ => Err(UnknownRoute),
         }
     }
 }

@@ -78,9 +78,9 @@ fn a_route_stops_at_the_cap(rt: HostRuntime) -> Result<(), Fail> {
 #[test]
 fn names_parse_and_print_back(rt: HostRuntime) -> Result<(), Fail> {
     for name in RouteName::ALL {
-        assert_eq!(rt; RouteName::parse(name.text()), Some(name));
+        assert_eq!(rt; name.text().parse::<RouteName>(), Ok(name));
         assert_eq!(rt; AnyRoute::new(name, 0)?.name(), name.text());
     }
-    assert_eq!(rt; RouteName::parse("Power"), None);
+    assert_eq!(rt; "Power".parse::<RouteName>(), Err(UnknownRoute));
     Ok(())
 }
