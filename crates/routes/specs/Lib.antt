@@ -4,6 +4,5 @@ pub mod Figures
 pub mod Formulas
 pub mod Inverting
 pub mod Names
-pub mod PackedTower
 pub mod Refusals
 pub mod Routes

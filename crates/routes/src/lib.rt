@@ -9,8 +9,6 @@ mod field;
 mod formula;
 mod metered;
 mod name;
-mod nibble_pair;
-mod packed_tower;
 mod power;
 mod refusal;
 mod route;

@@ -38,7 +38,6 @@ impl RouteName {
             RouteName::BitTower => "bit-tower",
         }
     }
-
 }
 
 impl fmt::Display for RouteName {
