@@ -7,16 +7,16 @@ use std::test::Fail;
 /// Sixteen bytes in a row, the first of which ends in the digit 0.
 fn row(high: u8) -> [u8; 16] {
     let mut bytes = [0; 16];
-    for low in 0..16u8 {
-        bytes[low as usize] = high.wrapping_mul(16) | low;
+    for (low, byte) in (0..16u8).zip(bytes.iter_mut()) {
+        *byte = high.wrapping_mul(16) | low;
     }
     bytes
 }
 
 /// Each of sixteen bytes is the byte field's inverse of the one at the same place.
 fn check_inverted(rt: &impl Abort, before: [u8; 16], after: [u8; 16]) {
-    for i in 0..16usize {
-        assert_eq!(rt; after[i], u8::from(Byte::from(before[i]).inverse()));
+    for (before, after) in before.iter().zip(&after) {
+        assert_eq!(rt; *after, u8::from(Byte::from(*before).inverse()));
     }
 }
 
