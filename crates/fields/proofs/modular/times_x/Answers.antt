@@ -3,9 +3,6 @@ use lib.Bits.{bit_xor}
 use Rattle.fields.proofs.Steps.{highest_lt, wrapped}
 use Rattle.fields.proofs.modular.times_x.Goals as goal
 
-pub keep-requires : goal.keep-requires
-keep-requires g c = highest_lt g.row.DEGREE c.args.a c.requires.positive c.requires.low
-
 pub returns : goal.returns
 returns g c =
     ap (bit_xor (c.args.a * 2 % 256)) c.keep.ensures

@@ -11,15 +11,6 @@ returns-then-eq c =
     inverse_unique nibble_laws c.args.self c.low-trial.result
     (sym c.product.ensures ∙ nibble_laws.same_means _ _ (sym c.if-eq.ensures) ∙ c.one.ensures)
 
-pub loop-value-preserved : goal.loop-value-preserved
-loop-value-preserved c t low high fits =
-    ⊎_elim
-    (λ (e : t ≡ c.loop-value.value).
-    false≢true (c.if-eq.ensures ∙ nibble_laws.same_holds _ _
-    (c.product.ensures ∙ ap (nibble_product c.args.self) (c.low-trial.ensures ∙ ap nibble (sym e)) ∙ fits ∙ sym c.one.ensures)))
-    (λ (ne : t ≡ c.loop-value.value → ⊥). let below : t < c.loop-value.value = omega arith in c.loop-value.invariant t low below fits)
-    (cases_eq t c.loop-value.value)
-
 pub returns : goal.returns
 returns c =
     c.zero.ensures ∙ none_fits c.args.self (λ t low high. let below : t < c.loop-value.value = omega arith in c.loop-value.invariant t low below)
