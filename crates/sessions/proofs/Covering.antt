@@ -1,8 +1,9 @@
 -- Covering step by step: bytes by their places, pieces that are written in place, and runs that are admitted. Assumes nothing.
-use Rattle.std.proofs.Common.{◌≡◌, ℕ, zero, suc, ◌+◌, ◌-◌, ◌*◌, ◌<◌, ◌≤◌, min, true, List, [], ◌∷◌, ◌++◌, length, get_or, take, drop, is_ok, Some, None, Ok, Err, Option, Result, sym, refl, ap, ◌∙◌, ⊎_elim, not-suc-le-zero, mul-le-mul_left, mul-zero, mul-suc, add-one, arith, length-append, length-drop, length-take-le, take_all, drop-cons, drop-drop, take_at, ext_get_or, drop_at, below_more}
+use Rattle.std.proofs.Common.{◌≡◌, ℕ, zero, suc, ◌+◌, ◌-◌, ◌*◌, ◌<◌, ◌≤◌, min, true, List, [], ◌∷◌, ◌++◌, length, get_or, take, drop, is_ok, Some, None, Ok, Err, Option, Result, sym, refl, ap, ◌∙◌, subst, ⊎_elim, not-suc-le-zero, mul-le-mul_left, mul-zero, mul-suc, add-one, arith, length-append, length-drop, length-take-le, take_all, drop-cons, drop-drop, take_at, ext_get_or, drop_at, below_more}
 use lib.Bits.{bit_xor}
 use lib.Seq.{drop-length}
 use borrow.Rule.Slice.PartMut.{put_mid}
+use Rattle.std.specs.Int.{div_ceil}
 use Rattle.std.proofs.lemmas.List.{nil_from_length, take-append-drop, append-nil}
 use Rattle.std.proofs.lemmas.Slice.{drop-put_mid}
 use Rattle.std.proofs.lemmas.Result.{MatchResult-at_ok}
@@ -53,19 +54,29 @@ pub told : (o : Option (List ℕ)) (tally rounds left : ℕ) → Headroom o tall
 told None tally rounds left h = let no_way : ⊥ = grind arith in absurd no_way
 told (Some key) tally rounds left h = (h.0, grind arith, grind arith)
 
+-- A sixteenth of a run's length, rounded up, is how many blocks it takes.
+pub blocks_are : (n k : ℕ) → k ≡ div_ceil n 16 → k ≡ blocks n
+blocks_are n k e = omega arith
+
 -- What is admitted when all tests are passed.
-pub admits_run : (h : Held) (n rounds left : ℕ) → key_length (length h.key) ≡ true → rounds ≡ key_rounds (length h.key) → left ≡ cap - h.tally → h.tally ≤ cap → h.next ≤ counters → n ≤ 65536 → blocks n ≤ counters - h.next → rounds * blocks n ≤ left → Admits h n (blocks n)
-admits_run h n rounds left keyed is-rounds is-left capped within short room paid =
-    record { answered = rule; keyed = keyed; count = refl; room = omega arith; paid = enough }
+pub admits_run : (h : Held) (n k rounds left : ℕ) → key_length (length h.key) ≡ true → rounds ≡ key_rounds (length h.key) → left ≡ cap - h.tally → h.tally ≤ cap → h.next ≤ counters → n ≤ 65536 → k ≡ div_ceil n 16 → k ≤ counters - h.next → rounds * k ≤ left → Admits h n k
+admits_run h n k rounds left keyed is-rounds is-left capped within short counts room paid =
+    record { answered = rule ∙ ap (gives_both h.next) (sym count); keyed = keyed; count = count; room = omega arith; paid = enough }
   where
-    enough : h.tally + key_rounds (length h.key) * blocks n ≤ cap
-    enough = omega (arith, ap (λ r. r * blocks n) is-rounds)
+    count : k ≡ blocks n
+    count = blocks_are n k counts
+
+    enough : h.tally + key_rounds (length h.key) * k ≤ cap
+    enough = omega (arith, ap (λ r. r * k) is-rounds)
+
+    enough_for_blocks : h.tally + key_rounds (length h.key) * blocks n ≤ cap
+    enough_for_blocks = subst (λ m. h.tally + key_rounds (length h.key) * m ≤ cap) count enough
 
     key_set : length h.key ≡ 0 → ⊥
     key_set e = grind (arith, nat_tests)
 
     rule : ruled (length h.key) h.next h.tally (covers n) ≡ gives_both h.next (blocks n)
-    rule = rw (ne_eqb (length h.key) 0 key_set, le-ltb 65536 n short, le-ltb (remains h.next) (blocks n) room, le-ltb cap (h.tally + key_rounds (length h.key) * blocks n) enough)
+    rule = rw (ne_eqb (length h.key) 0 key_set, le-ltb 65536 n short, le-ltb (remains h.next) (blocks n) (omega arith), le-ltb cap (h.tally + key_rounds (length h.key) * blocks n) enough_for_blocks)
 
 -- ---- one block
 

@@ -1,25 +1,41 @@
 -- Calls as values: what carrying out one and carrying out a list come to. Assumes nothing.
-use Rattle.std.proofs.Common.{◌≡◌, ℕ, ◌+◌, ◌<◌, ◌≤◌, List, [], ◌∷◌, ◌++◌, map, length, get_or, take, drop, set, vec_items, vec_len, Vec, sym, refl, ap, ◌∙◌, subst, ap₂, add-zero, arith, length-append, get_or-drop, take_all, drop-drop, drop-set-lt}
+use Rattle.std.proofs.Common.{◌≡◌, ℕ, ◌+◌, ◌<◌, ◌≤◌, List, [], ◌∷◌, ◌++◌, map, length, get_or, take, drop, set, vec_items, vec_len, Ok, Err, IsOkAnd, MatchResult, Result, Vec, sym, refl, ap, ◌∙◌, subst, ap₂, add-zero, arith, length-append, get_or-drop, take_all, drop-drop, drop-set-lt}
 use mathlib.Core.List.{map-append}
 use lib.ListN.{length-map}
 use Rattle.std.proofs.lemmas.List.{with_items_is, take_more, take_more_set}
 use Rattle.std.specs.Vec.{with_items}
 use Rattle.std.specs.declared.alloc.Global.{Global}
-use Rattle.sessions.specs.Calls.{cover, covers}
-use Rattle.sessions.specs.Exchanges.{call_in, answer_in, shape_in, event_in, events_in, CarriedOne, Carried}
+use Rattle.routes.specs.declared.refusal.Refusal.{Refusal}
+use Rattle.sessions.specs.Calls.{Answer, cover, covers}
+use Rattle.sessions.specs.Exchanges.{call_in, given_in, answer_in, shape_in, run_in, event_in, events_in, CarriedOne, Carried}
 use Rattle.sessions.specs.Histories.{Held, Event, Promised, History, none, then}
+use Rattle.sessions.specs.Reading.{number_given, numbers_given}
 use Rattle.sessions.specs.declared.call.SessionCall.{SessionCall}
 use Rattle.sessions.specs.declared.call.SessionCall.TheVariants.{Cover}
-use Rattle.sessions.specs.declared.call.SessionAnswer.{SessionAnswer}
+use Rattle.sessions.specs.declared.call.Given.{Given}
+use Rattle.sessions.specs.declared.call.Given.TheVariants.{Left}
+use Rattle.sessions.specs.declared.call.Given.TheVariants.{Used as used}
+use Rattle.sessions.specs.declared.used.Used.{Used}
 
 -- ---- one call
 
-module _ {h h' : Held} {c : SessionCall} (a : SessionAnswer) where
+-- What a call gave, noted as an answer.
+pub answered_left : (r : Result ℕ Refusal) (a : Result Given Refusal) → MatchResult r (λ x. IsOkAnd a (λ y. y ≡ Left x)) (λ e. a ≡ Err e) → answer_in a ≡ number_given r
+answered_left (Ok x) (Ok y) h = ap given_in h
+answered_left (Ok x) (Err e) h = absurd h
+answered_left (Err d) a h = ap answer_in h
+
+pub answered_used : (r : Result Used Refusal) (a : Result Given Refusal) → MatchResult r (λ x. IsOkAnd a (λ y. y ≡ used x)) (λ e. a ≡ Err e) → answer_in a ≡ numbers_given r
+answered_used (Ok x) (Ok y) h = ap given_in h
+answered_used (Ok x) (Err e) h = absurd h
+answered_used (Err d) a h = ap answer_in h
+
+module _ {h h' : Held} {c : SessionCall} (a : Result Given Refusal) {given : Answer} (noted : answer_in a ≡ given) where
   -- A run was covered in place.
-  pub carried_cover : (v : Vec ℕ Global) (xs ys : List ℕ) → c ≡ Cover v → xs ≡ vec_items v → length xs ≡ vec_len v → length ys ≡ length xs → Promised h record { call = cover xs; answer = answer_in a; left = ys } h' → CarriedOne h c a (Cover (with_items v ys)) h'
+  pub carried_cover : (v : Vec ℕ Global) (xs ys : List ℕ) → c ≡ Cover v → xs ≡ vec_items v → length xs ≡ vec_len v → length ys ≡ length xs → Promised h record { call = cover xs; answer = given; left = ys } h' → CarriedOne h c a (Cover (with_items v ys)) h'
   carried_cover v xs ys is holds size same promised =
       record {
-        promised = subst (λ e. Promised h e h') (λ i. record { call = event_is i; answer = answer_in a; left = left_is i }) promised;
+        promised = subst (λ e. Promised h e h') (λ i. record { call = event_is i; answer = sym noted i; left = left_is i }) promised;
         same_shape = ap (λ zs. covers (length zs)) (sym left_is) ∙ ap covers same ∙ ap (λ zs. covers (length zs)) holds ∙ ap shape_in (sym is);
       }
     where
@@ -30,16 +46,12 @@ module _ {h h' : Held} {c : SessionCall} (a : SessionAnswer) where
       event_is = ap cover holds ∙ ap call_in (sym is)
 
   -- A call with no run is left as it is.
-  pub carried_as_is : (c' : SessionCall) → c ≡ c' → Promised h (event_in c' a c') h' → CarriedOne h c a c' h'
+  pub carried_as_is : (c' : SessionCall) → c ≡ c' → Promised h record { call = call_in c'; answer = given; left = run_in c' } h' → CarriedOne h c a c' h'
   carried_as_is c' is promised =
       record {
-        promised = subst (λ d. Promised h (event_in d a c') h') (sym is) promised;
+        promised = subst (λ e. Promised h e h') (λ i. record { call = call_in (sym is i); answer = sym noted i; left = run_in c' }) promised;
         same_shape = ap shape_in (sym is);
       }
-
-  pub carried_kept : (d : SessionCall) → c ≡ d → Promised h (event_in d a d) h' → CarriedOne h c a c h'
-  carried_kept d is promised =
-      record { promised = subst (λ b. Promised h (event_in b a b) h') (sym is) promised; same_shape = refl }
 
 -- ---- a list of calls
 
@@ -48,7 +60,7 @@ pub history_more : {h h' h'' : Held} {es : List Event} {e : Event} → History h
 history_more none last = then last none
 history_more (then first rest) last = then first (history_more rest last)
 
-events_more : (cs : List SessionCall) (as' : List SessionAnswer) (cs' : List SessionCall) (c : SessionCall) (a : SessionAnswer) (c' : SessionCall) → length as' ≡ length cs → length cs' ≡ length cs → events_in (cs ++ c ∷ []) (as' ++ a ∷ []) (cs' ++ c' ∷ []) ≡ events_in cs as' cs' ++ event_in c a c' ∷ []
+events_more : (cs : List SessionCall) (as' : List (Result Given Refusal)) (cs' : List SessionCall) (c : SessionCall) (a : Result Given Refusal) (c' : SessionCall) → length as' ≡ length cs → length cs' ≡ length cs → events_in (cs ++ c ∷ []) (as' ++ a ∷ []) (cs' ++ c' ∷ []) ≡ events_in cs as' cs' ++ event_in c a c' ∷ []
 unfolding events_in
 events_more [] [] [] c a c' p q = refl
 events_more [] [] (d' ∷ cs') c a c' p q = let no_way : ⊥ = omega arith in absurd no_way
@@ -64,7 +76,7 @@ pub carried_none : (h : Held) → Carried h [] [] [] h
 unfolding events_in
 carried_none h = record { history = none; all_answered = refl; same_shapes = refl }
 
-pub carried_more : {h h' h'' : Held} {cs cs' : List SessionCall} {as' : List SessionAnswer} {c c' : SessionCall} {a : SessionAnswer} → Carried h cs as' cs' h' → CarriedOne h' c a c' h'' → Carried h (cs ++ c ∷ []) (as' ++ a ∷ []) (cs' ++ c' ∷ []) h''
+pub carried_more : {h h' h'' : Held} {cs cs' : List SessionCall} {as' : List (Result Given Refusal)} {c c' : SessionCall} {a : Result Given Refusal} → Carried h cs as' cs' h' → CarriedOne h' c a c' h'' → Carried h (cs ++ c ∷ []) (as' ++ a ∷ []) (cs' ++ c' ∷ []) h''
 carried_more {h = h} {h'' = h''} {cs = cs} {cs' = cs'} {as' = as'} {c = c} {c' = c'} {a = a} all one =
     record {
       history = subst (λ es. History h es h'') (sym (events_more cs as' cs' c a c' all.all_answered (same_lengths cs cs' all.same_shapes))) (history_more all.history one.promised);
@@ -80,7 +92,7 @@ module _ (before now' : List SessionCall) (i : ℕ) (below : i < length now') (s
       at_start : (xs : List SessionCall) → get_or xs i d ≡ get_or (drop i xs) 0 d
       at_start xs = sym (get_or-drop i xs 0 d ∙ ap (λ n. get_or xs n d) (add-zero i))
 
-  pub carried_next : {h h' h'' : Held} {as' as'' : List SessionAnswer} (d c' : SessionCall) {a : SessionAnswer} → as'' ≡ as' ++ a ∷ [] → Carried h (take i before) as' (take i now') h' → CarriedOne h' (get_or now' i d) a c' h'' → Carried h (take (i + 1) before) as'' (take (i + 1) (set now' i c')) h''
+  pub carried_next : {h h' h'' : Held} {as' as'' : List (Result Given Refusal)} (d c' : SessionCall) {a : Result Given Refusal} → as'' ≡ as' ++ a ∷ [] → Carried h (take i before) as' (take i now') h' → CarriedOne h' (get_or now' i d) a c' h'' → Carried h (take (i + 1) before) as'' (take (i + 1) (set now' i c')) h''
   carried_next {h = h} {h'' = h''} {as' = as'} {as'' = as''} d c' {a = a} noted all one = subst (λ bs. Carried h (take (i + 1) before) bs (take (i + 1) (set now' i c')) h'') (sym noted) next
     where
       here : take (i + 1) before ≡ take i before ++ get_or now' i d ∷ []
@@ -94,7 +106,7 @@ module _ (before now' : List SessionCall) (i : ℕ) (below : i < length now') (s
   rest_next c' = drop-set-lt (i + 1) now' i c' (omega arith) ∙ sym (drop-drop 1 i now') ∙ ap (drop 1) rest ∙ drop-drop 1 i before
 
 -- The whole list has been carried out, in the place where it stands.
-pub carried_all : {h h' : Held} {as' : List SessionAnswer} (before now' given left : List SessionCall) (i : ℕ) → length before ≤ i → length now' ≤ i → before ≡ given → left ≡ now' → Carried h (take i before) as' (take i now') h' → Carried h given as' left h'
+pub carried_all : {h h' : Held} {as' : List (Result Given Refusal)} (before now' given left : List SessionCall) (i : ℕ) → length before ≤ i → length now' ≤ i → before ≡ given → left ≡ now' → Carried h (take i before) as' (take i now') h' → Carried h given as' left h'
 carried_all {h = h} {h' = h'} {as' = as'} before now' given left i p q passed kept all =
     subst (λ cs. Carried h cs as' left h') (take_all i before p ∙ passed) (subst (λ cs. Carried h (take i before) as' cs h') (take_all i now' q ∙ sym kept) all)
 

@@ -16,7 +16,7 @@ use Rattle.sessions.specs.Laws.{Fed, fed_none, fed_then, Uncovers}
 use Rattle.sessions.specs.Places.{Ran}
 use Rattle.sessions.specs.Reading.{key_or_none, open_verdict, held_by}
 use Rattle.sessions.specs.declared.call.SessionCall.{SessionCall}
-use Rattle.sessions.specs.declared.call.SessionAnswer.{SessionAnswer}
+use Rattle.sessions.specs.declared.call.Given.{Given}
 use Rattle.sessions.specs.declared.ends.BothEnds.{BothEnds}
 use Rattle.sessions.specs.declared.ends.end.End.{End}
 use Rattle.sessions.specs.declared.ends.error.ExchangeError.{ExchangeError}
@@ -75,7 +75,7 @@ module _ (u : SetUp) where
 -- ---- one end
 
 -- What is held when the key is set and the session opened is what the set-up says, and so is what is held at the end but for the numbers.
-pub run_carried : {R : Type 0} (tally : R → ℕ) (u : SetUp) (e e' : Engine R) (s s' : Session) (closed : ℕ) {cs cs' : List SessionCall} {as' : List SessionAnswer} → engine_key e ≡ Some u.key → tally e.route ≡ u.starting + key_cost (length u.key) → s.prefix ≡ u.prefix → s.next ≡ u.opening → closed ≡ s'.next → Carried (held_by tally e s) cs as' cs' (held_by tally e' s') → Carried (opened u) cs as' cs' (held_at_end u closed (tally e'.route))
+pub run_carried : {R : Type 0} (tally : R → ℕ) (u : SetUp) (e e' : Engine R) (s s' : Session) (closed : ℕ) {cs cs' : List SessionCall} {as' : List (Result Given Refusal)} → engine_key e ≡ Some u.key → tally e.route ≡ u.starting + key_cost (length u.key) → s.prefix ≡ u.prefix → s.next ≡ u.opening → closed ≡ s'.next → Carried (held_by tally e s) cs as' cs' (held_by tally e' s') → Carried (opened u) cs as' cs' (held_at_end u closed (tally e'.route))
 run_carried tally u e e' s s' closed {cs = cs} {cs' = cs'} {as' = as'} key-is tally-is prefix-is next-is closed_is carried =
     subst (λ h. Carried (opened u) cs as' cs' h) finish from_start
   where
@@ -100,13 +100,13 @@ end_ran u cs end tally told none carried =
 
 -- ---- lists of events by their parts
 
-record Parts (cs : List SessionCall) (as' : List SessionAnswer) (cs' : List SessionCall) : Type 0 where
+record Parts (cs : List SessionCall) (as' : List (Result Given Refusal)) (cs' : List SessionCall) : Type 0 where
   answers_are : answers (events_in cs as' cs') ≡ map answer_in as'
   shapes_are : shapes (events_in cs as' cs') ≡ map shape_in cs
   before_are : runs_before (events_in cs as' cs') ≡ map run_in cs
   after_are : runs_after (events_in cs as' cs') ≡ map run_in cs'
 
-parts : (cs : List SessionCall) (as' : List SessionAnswer) (cs' : List SessionCall) → length as' ≡ length cs → length cs' ≡ length cs → Parts cs as' cs'
+parts : (cs : List SessionCall) (as' : List (Result Given Refusal)) (cs' : List SessionCall) → length as' ≡ length cs → length cs' ≡ length cs → Parts cs as' cs'
 unfolding events_in
 parts [] [] [] p q = record { answers_are = refl; shapes_are = refl; before_are = refl; after_are = refl }
 parts [] [] (c' ∷ cs') p q = let no_way : ⊥ = omega arith in absurd no_way
@@ -123,7 +123,7 @@ parts (c ∷ cs) (a ∷ as') (c' ∷ cs') p q =
     }
 
 -- A second end that is passed what the first left is fed.
-fed_in : (cs : List SessionCall) (as' : List SessionAnswer) (cs' : List SessionCall) (bs : List SessionAnswer) (ds : List SessionCall) → length as' ≡ length cs → length bs ≡ length cs' → length ds ≡ length cs' → map shape_in cs' ≡ map shape_in cs → Fed (events_in cs as' cs') (events_in cs' bs ds)
+fed_in : (cs : List SessionCall) (as' : List (Result Given Refusal)) (cs' : List SessionCall) (bs : List (Result Given Refusal)) (ds : List SessionCall) → length as' ≡ length cs → length bs ≡ length cs' → length ds ≡ length cs' → map shape_in cs' ≡ map shape_in cs → Fed (events_in cs as' cs') (events_in cs' bs ds)
 unfolding events_in
 fed_in [] as' [] bs ds p q r same = fed_none
 fed_in [] as' (c' ∷ cs') bs ds p q r same = let no_way : ⊥ = omega (arith, same_lengths [] (c' ∷ cs') same) in absurd no_way
@@ -137,7 +137,7 @@ fed_in (c ∷ cs) (a ∷ as') (c' ∷ cs') (b ∷ bs) (d ∷ ds) p q r same =
 -- ---- copies
 
 -- An end that is passed copies of calls is an end that is passed the calls.
-copied_events : (cs ds : List SessionCall) (as' : List SessionAnswer) (cs' : List SessionCall) → map call_in cs ≡ map call_in ds → events_in cs as' cs' ≡ events_in ds as' cs'
+copied_events : (cs ds : List SessionCall) (as' : List (Result Given Refusal)) (cs' : List SessionCall) → map call_in cs ≡ map call_in ds → events_in cs as' cs' ≡ events_in ds as' cs'
 unfolding events_in
 copied_events [] [] as' cs' e = refl
 copied_events [] (d ∷ ds) as' cs' e = let no_way : ⊥ = omega (arith, ap length e) in absurd no_way

@@ -1,5 +1,5 @@
 -- Lists of calls as values, what carrying them out comes to, and what two ends make of them. Assumes nothing.
-use Rattle.std.specs.Prelude.{◌≡◌, ℕ, ◌+◌, ◌*◌, cond, List, [], ◌∷◌, map, length, Some, None, vec_items, Option, Result, MatchResult, nat_le}
+use Rattle.std.specs.Prelude.{◌≡◌, ℕ, ◌+◌, ◌*◌, cond, List, [], ◌∷◌, map, length, Some, None, Ok, Err, vec_items, Option, Result, MatchResult, nat_le}
 use Rattle.cipher.specs.Keys.{key_cost, key_rounds, key_verdict}
 use Rattle.routes.specs.Refusals.{numbers}
 use Rattle.routes.specs.Routes.{cap}
@@ -11,8 +11,8 @@ use Rattle.sessions.specs.Places.{Account, Ran}
 use Rattle.sessions.specs.Reading.{opening_number, open_verdict}
 use Rattle.sessions.specs.declared.call.SessionCall.{SessionCall}
 use Rattle.sessions.specs.declared.call.SessionCall.TheVariants.{Cover, Skip, Remaining}
-use Rattle.sessions.specs.declared.call.SessionAnswer.{SessionAnswer}
-use Rattle.sessions.specs.declared.call.SessionAnswer.TheVariants.{Left, Used, Refused}
+use Rattle.sessions.specs.declared.call.Given.{Given}
+use Rattle.sessions.specs.declared.call.Given.TheVariants.{Left, Used}
 use Rattle.sessions.specs.declared.ends.BothEnds.{BothEnds}
 use Rattle.sessions.specs.declared.ends.end.End.{End}
 use Rattle.sessions.specs.declared.ends.error.ExchangeError.{ExchangeError}
@@ -25,10 +25,13 @@ call_in (Cover run) = cover (vec_items run)
 call_in (Skip n) = skip n
 call_in Remaining = remaining
 
-abbrev pub answer_in : SessionAnswer → Answer
-answer_in (Left n) = gives n
-answer_in (Used first n) = gives_both first n
-answer_in (Refused e) = refusal e
+abbrev pub given_in : Given → Answer
+given_in (Left n) = gives n
+given_in (Used u) = gives_both u.first u.count
+
+abbrev pub answer_in : Result Given Refusal → Answer
+answer_in (Ok given) = given_in given
+answer_in (Err e) = refusal e
 
 abbrev pub shape_in : SessionCall → Shape
 shape_in c = shape (call_in c)
@@ -39,23 +42,23 @@ run_in c = run_of (call_in c)
 -- ---- carrying calls out
 
 -- What happened: a call as it was passed, its answer, and the call with its run as it was left.
-abbrev pub event_in : SessionCall → SessionAnswer → SessionCall → Event
+abbrev pub event_in : SessionCall → Result Given Refusal → SessionCall → Event
 event_in c a c' = record { call = call_in c; answer = answer_in a; left = run_in c' }
 
 -- A call was carried out: as it is promised, and its shape is kept.
-pub record CarriedOne (h : Held) (c : SessionCall) (a : SessionAnswer) (c' : SessionCall) (h' : Held) : Type 0 where
+pub record CarriedOne (h : Held) (c : SessionCall) (a : Result Given Refusal) (c' : SessionCall) (h' : Held) : Type 0 where
   pub promised : Promised h (event_in c a c') h'
   pub same_shape : shape_in c' ≡ shape_in c
 
 -- The events of a list, call by call.
-unfoldable pub events_in : List SessionCall → List SessionAnswer → List SessionCall → List Event
+unfoldable pub events_in : List SessionCall → List (Result Given Refusal) → List SessionCall → List Event
 events_in [] as' cs' = []
 events_in (c ∷ cs) [] cs' = []
 events_in (c ∷ cs) (a ∷ as') [] = []
 events_in (c ∷ cs) (a ∷ as') (c' ∷ cs') = event_in c a c' ∷ events_in cs as' cs'
 
 -- A list was carried out, one call after the other: one answer to each call, and the shapes are kept.
-pub record Carried (h : Held) (cs : List SessionCall) (as' : List SessionAnswer) (cs' : List SessionCall) (h' : Held) : Type 0 where
+pub record Carried (h : Held) (cs : List SessionCall) (as' : List (Result Given Refusal)) (cs' : List SessionCall) (h' : Held) : Type 0 where
   pub history : History h (events_in cs as' cs') h'
   pub all_answered : length as' ≡ length cs
   pub same_shapes : map shape_in cs' ≡ map shape_in cs
@@ -83,7 +86,7 @@ abbrev pub held_at_end : SetUp → (closed tally : ℕ) → Held
 held_at_end u closed tally = record { key = u.key; prefix = u.prefix; next = closed; tally = tally }
 
 -- A session was run through from a set-up, and the number at which it closed is told; or the set-up was refused.
-abbrev pub RunThrough : SetUp → List SessionCall → List SessionAnswer → List SessionCall → ℕ → Result ℕ Refusal → Type 0
+abbrev pub RunThrough : SetUp → List SessionCall → List (Result Given Refusal) → List SessionCall → ℕ → Result ℕ Refusal → Type 0
 RunThrough u cs as' cs' tally r =
     MatchResult r
     (λ closed. (set_up_verdict u ≡ None) × Carried (opened u) cs as' cs' (held_at_end u closed tally))

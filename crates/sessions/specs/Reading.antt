@@ -8,6 +8,7 @@ use Rattle.sessions.specs.Calls.{Answer, cover, skip, remaining, gives, gives_bo
 use Rattle.sessions.specs.Counters.{counters}
 use Rattle.sessions.specs.Histories.{Held, Event, Promised}
 use Rattle.sessions.specs.declared.session.Session.{Session}
+use Rattle.sessions.specs.declared.used.Used.{Used}
 
 -- ---- what is held
 
@@ -31,12 +32,12 @@ abbrev pub number_given : Result ℕ Refusal → Answer
 number_given (Ok n) = gives n
 number_given (Err e) = refusal e
 
-abbrev pub numbers_given : Result (ℕ × ℕ) Refusal → Answer
-numbers_given (Ok n) = gives_both n.0 n.1
+abbrev pub numbers_given : Result Used Refusal → Answer
+numbers_given (Ok u) = gives_both u.first u.count
 numbers_given (Err e) = refusal e
 
 -- A run was covered, n numbers were skipped, or it was asked how many remain.
-abbrev pub covering : List ℕ → Result (ℕ × ℕ) Refusal → List ℕ → Event
+abbrev pub covering : List ℕ → Result Used Refusal → List ℕ → Event
 covering run r run' = record { call = cover run; answer = numbers_given r; left = run' }
 
 abbrev pub skipping : ℕ → Result ℕ Refusal → Event

@@ -1,8 +1,9 @@
 //! Calls of a session as values, and what they are answered.
+use crate::used::Used;
 use routes::Refusal;
 
 /// A call that is to be carried out. A run is covered in place.
-#[derive(Drop)]
+#[derive(Clone, Drop)]
 pub enum SessionCall {
     /// Cover this run.
     Cover(Vec<u8>),
@@ -12,13 +13,14 @@ pub enum SessionCall {
     Remaining,
 }
 
-/// What a call was answered.
+/// What a call gave that was taken.
 #[derive(Clone, Copy, PartialEq, Eq, Debug)]
-pub enum SessionAnswer {
+pub enum Given {
     /// How many counter numbers remain.
     Left(u64),
-    /// The first number used, and how many.
-    Used(u64, u64),
-    /// The call was refused.
-    Refused(Refusal),
+    /// The counter numbers used.
+    Used(Used),
 }
+
+/// What a call was answered: what it gave, or why it was refused.
+pub type SessionAnswer = Result<Given, Refusal>;

@@ -3,7 +3,7 @@ ghost use Rattle.std.specs.Prelude.{◌≡◌, ◌≤◌, [], replicate, vec_len
 ghost use Rattle.sessions.specs.Exchanges.{CarriedOne, Carried};
 ghost use Rattle.sessions.specs.Reading.{held_by};
 
-use crate::call::{SessionAnswer, SessionCall};
+use crate::call::{Given, SessionAnswer, SessionCall};
 use crate::session::Session;
 use cipher::Engine;
 use routes::Route;
@@ -18,15 +18,11 @@ fn carry_out_one<R: Route>(
     ensures { CarriedOne (held_by R.Route.tally engine.old session.old) call.old result call.new (held_by R.Route.tally engine.new session.new) }
 {
     match call {
-        SessionCall::Cover(run) => match session.cover(engine, run.as_mut_slice(), pad) {
-            Ok((first, count)) => SessionAnswer::Used(first, count),
-            Err(refusal) => SessionAnswer::Refused(refusal),
-        },
-        SessionCall::Skip(n) => match session.skip(*n) {
-            Ok(left) => SessionAnswer::Left(left),
-            Err(refusal) => SessionAnswer::Refused(refusal),
-        },
-        SessionCall::Remaining => SessionAnswer::Left(session.remaining()),
+        SessionCall::Cover(run) => session
+            .cover(engine, run.as_mut_slice(), pad)
+            .map(Given::Used),
+        SessionCall::Skip(n) => session.skip(*n).map(Given::Left),
+        SessionCall::Remaining => Ok(Given::Left(session.remaining())),
     }
 }
 

@@ -3,6 +3,7 @@ ghost use Rattle.sessions.specs.Clients.{CoveredOnce, ClosedAfter};
 ghost use Rattle.sessions.specs.Reading.{Remained};
 
 use crate::session::Session;
+use crate::used::Used;
 use cipher::Engine;
 use routes::{Refusal, Route};
 
@@ -12,7 +13,7 @@ pub fn cover_then_retire<R: Route>(
     mut engine: Engine<R>,
     run: &mut [u8],
     pad: &mut [u8; 16],
-) -> (Result<(u64, u64), Refusal>, R)
+) -> (Result<Used, Refusal>, R)
     ensures { CoveredOnce R.Route.tally engine session.old session.new run.old run.new result }
 {
     let answer = session.cover(&mut engine, run, pad);
@@ -26,7 +27,7 @@ pub fn cover_then_close<R: Route>(
     engine: &mut Engine<R>,
     run: &mut [u8],
     pad: &mut [u8; 16],
-) -> (Result<(u64, u64), Refusal>, u64)
+) -> (Result<Used, Refusal>, u64)
     ensures { ClosedAfter R.Route.tally engine.old engine.new session run.old run.new result }
 {
     let answer = session.cover(engine, run, pad);

@@ -2,6 +2,7 @@
 ghost use Rattle.sessions.specs.Exchanges.{set_up_with, Exchanged};
 ghost use Rattle.sessions.specs.Laws.{SessionLaws};
 
+use crate::agreement::Agreement;
 use crate::call::SessionCall;
 use crate::ends::copies::copies_of;
 use crate::ends::end::{End, run_end};
@@ -27,22 +28,19 @@ pub fn exchange<A: Route, B: Route>(
     heap: Global,
     transmitter: A::Choice,
     gateway: B::Choice,
-    key: &[u8],
-    prefix: &[u8],
-    at: Option<u64>,
-    start: u64,
+    agreement: Agreement,
     calls: Vec<SessionCall>,
 ) -> Result<BothEnds, ExchangeError>
-    ensures ends { Exchanged (set_up_with key.now prefix.now at start) calls.items result }
+    ensures ends { Exchanged (set_up_with agreement.entry.key.now agreement.entry.prefix.now agreement.entry.at agreement.entry.start) calls.items result }
     ensures laws { SessionLaws }
 {
-    let near = A::new(transmitter, start);
-    let far = B::new(gateway, start);
+    let near = A::new(transmitter, agreement.start);
+    let far = B::new(gateway, agreement.start);
     let near = near?;
     let far = far?;
-    let transmitter = run_end(heap, near, key, prefix, at, calls)?;
+    let transmitter = run_end(heap, near, agreement, calls)?;
     let sent = copies_of(heap, &transmitter.calls)?;
-    let gateway = run_end(heap, far, key, prefix, at, sent)?;
+    let gateway = run_end(heap, far, agreement, sent)?;
     Ok(BothEnds {
         transmitter,
         gateway,

@@ -10,6 +10,7 @@
 ghost use Rattle.std.specs.Prelude.{◌≡◌, true};
 ghost use Rattle.sessions.specs.Laws.{SessionLaws};
 
+mod agreement;
 mod call;
 mod carry;
 mod client;
@@ -18,14 +19,17 @@ mod figures;
 mod pad;
 mod session;
 mod stream;
+mod used;
 
-pub use call::{SessionAnswer, SessionCall};
+pub use agreement::Agreement;
+pub use call::{Given, SessionAnswer, SessionCall};
 pub use client::{cover_then_close, cover_then_retire, remaining_at_close};
 pub use ends::end::End;
 pub use ends::error::ExchangeError;
 pub use ends::{BothEnds, exchange};
 pub use figures::session_figures;
 pub use session::{COUNTERS, Session};
+pub use used::Used;
 
 /// The laws of counter sessions hold: of every session, of every two ends, of every chain, over every route.
 pub fn session_laws_hold() -> bool

@@ -21,8 +21,8 @@ fn add(part: &mut [u8], pad: &[u8; 16])
     requires { length part.old ≤ 16 }
     ensures { part.new ≡ plus part.old pad.now }
 {
-    for i in 0..part.len() {
-        part[i] ^= pad[i];
+    for (i, byte) in part.iter_mut().enumerate() {
+        *byte ^= pad[i];
     }
 }
 
@@ -58,7 +58,7 @@ pub(crate) fn cover_run<R: Route>(
     ensures spent { Spent R.Route.tally engine.old engine.new (blocks (length run.old)) }
     ensures added { Added (key_of engine.old) prefix.now first (blocks (length run.old)) run.old run.new }
 {
-    let count = (run.len() + 15) / 16;
+    let count = run.len().div_ceil(16);
     for p in 0..count {
         let at = 16 * p;
         let end = run.len().min(at + 16);

@@ -2,6 +2,7 @@
 ghost use Rattle.std.specs.Prelude.{◌≡◌, ◌≤◌, [], vec_len, vec_capacity};
 ghost use Rattle.sessions.specs.Exchanges.{set_up_with, RunThrough, Ended};
 
+use crate::agreement::Agreement;
 use crate::call::{SessionAnswer, SessionCall};
 use crate::carry::carry_out;
 use crate::ends::error::ExchangeError;
@@ -26,18 +27,16 @@ pub struct End {
 /// Sets the key, opens a session, carries out the calls and closes the session, and gives the number at which it closed.
 fn run_through<R: Route>(
     engine: &mut Engine<R>,
-    key: &[u8],
-    prefix: &[u8],
-    at: Option<u64>,
+    agreement: Agreement,
     calls: &mut Vec<SessionCall>,
     answers: &mut Vec<SessionAnswer>,
 ) -> Result<u64, Refusal>
     requires none { answers.old.items ≡ [] }
     requires room { vec_len calls.old ≤ vec_capacity answers.old }
-    ensures { RunThrough (set_up_with key.now prefix.now at (R.Route.tally engine.old.route)) calls.old.items answers.new.items calls.new.items (R.Route.tally engine.new.route) result }
+    ensures { RunThrough (set_up_with agreement.entry.key.now agreement.entry.prefix.now agreement.entry.at (R.Route.tally engine.old.route)) calls.old.items answers.new.items calls.new.items (R.Route.tally engine.new.route) result }
 {
-    engine.set_key(key)?;
-    let mut session = Session::open(prefix, at)?;
+    engine.set_key(agreement.key)?;
+    let mut session = Session::open(agreement.prefix, agreement.at)?;
     carry_out(&mut session, engine, calls, answers);
     Ok(session.close())
 }
@@ -47,16 +46,14 @@ fn run_through<R: Route>(
 pub(crate) fn run_end<R: Route>(
     heap: Global,
     route: R,
-    key: &[u8],
-    prefix: &[u8],
-    at: Option<u64>,
+    agreement: Agreement,
     mut calls: Vec<SessionCall>,
 ) -> Result<End, ExchangeError>
-    ensures { Ended (set_up_with key.now prefix.now at (R.Route.tally route)) calls.items result }
+    ensures { Ended (set_up_with agreement.entry.key.now agreement.entry.prefix.now agreement.entry.at (R.Route.tally route)) calls.items result }
 {
     let mut answers = Vec::with_capacity(heap, calls.len())?;
     let mut engine = Engine::new(route);
-    let ran = run_through(&mut engine, key, prefix, at, &mut calls, &mut answers);
+    let ran = run_through(&mut engine, agreement, &mut calls, &mut answers);
     let tally = engine.retire().tally();
     let closed = ran?;
     Ok(End {

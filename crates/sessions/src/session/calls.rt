@@ -1,5 +1,6 @@
 //! Opening and closing a session, and the calls that need no engine.
 ghost use Rattle.std.specs.Prelude.{◌≡◌};
+ghost use Rattle.sessions.specs.Calls.{remains};
 ghost use Rattle.sessions.specs.Reading.{Opened, Remained, Skipped};
 
 use crate::session::{COUNTERS, Session};
@@ -14,10 +15,7 @@ impl Session {
         if prefix.len() != 12 {
             return Err(Refusal::PrefixLength(prefix.len() as u64));
         }
-        let next = match at {
-            Some(number) => number,
-            None => 0,
-        };
+        let next = at.unwrap_or(0);
         if next > COUNTERS {
             return Err(Refusal::OpeningNumber(next));
         }
@@ -31,7 +29,8 @@ impl Session {
 
     /// How many counter numbers remain.
     pub fn remaining(&self) -> u64
-        ensures { Remained self.now result }
+        ensures promised { Remained self.now result }
+        ensures counted { result ≡ remains self.now.next }
     {
         COUNTERS - self.next
     }
@@ -40,7 +39,7 @@ impl Session {
     pub fn skip(&mut self, n: u64) -> Result<u64, Refusal>
         ensures { Skipped self.old n result self.new }
     {
-        let left = COUNTERS - self.next;
+        let left = self.remaining();
         if n > left {
             return Err(Refusal::Remaining(left));
         }

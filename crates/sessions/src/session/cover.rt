@@ -5,8 +5,9 @@ ghost use Rattle.sessions.specs.Histories.{Promised};
 ghost use Rattle.sessions.specs.Reading.{held_by, covering};
 
 use crate::pad::Pad;
-use crate::session::{COUNTERS, Session};
+use crate::session::Session;
 use crate::stream::cover_run;
+use crate::used::Used;
 use cipher::Engine;
 use routes::{Refusal, Route};
 
@@ -21,8 +22,8 @@ impl Session {
         if size > 65536 {
             return Err(Refusal::RunLength(size as u64));
         }
-        let blocks = (size as u64 + 15) / 16;
-        let left = COUNTERS - self.next;
+        let blocks = (size as u64).div_ceil(16);
+        let left = self.remaining();
         if blocks > left {
             return Err(Refusal::Remaining(left));
         }
@@ -41,7 +42,7 @@ impl Session {
         engine: &mut Engine<R>,
         run: &mut [u8],
         pad: &mut [u8; 16],
-    ) -> Result<(u64, u64), Refusal>
+    ) -> Result<Used, Refusal>
         ensures promised { Promised (held_by R.Route.tally engine.old self.old) (covering run.old result run.new) (held_by R.Route.tally engine.new self.new) }
         ensures wiped { pad.new ≡ replicate 16 0 }
     {
@@ -50,6 +51,9 @@ impl Session {
         let first = self.next;
         cover_run(engine, &self.prefix, first, run, guard.bytes);
         self.next += blocks;
-        Ok((first, blocks))
+        Ok(Used {
+            first,
+            count: blocks,
+        })
     }
 }

@@ -8,7 +8,7 @@ use Rattle.sessions.proofs.stream.cover_run.Goals as goal
 pub cover_piece-requires : goal.cover_piece-requires
 cover_piece-requires g c =
     record {
-      ready = still_ready g.R.Route.tally c.loop-p.invariant.0 c.requires.ready c.loop-p-test.true;
+      ready = still_ready g.R.Route.tally c.loop-p.invariant.0 c.requires.ready (omega arith);
       below = omega arith;
       short = simp (length-take, length-drop) (omega arith);
     }

@@ -8,7 +8,7 @@ use Rattle.sessions.proofs.ends.end.run_end.Goals as goal
 pub returns : goal.returns
 returns g c =
     let end : End = record { calls = c.run_through-ran.new.calls; answers = c.run_through-ran.new.answers; closed = c.in_ok-closed.closed; tally = c.tally-tally.result } in
-    let u = set_up_with c.args.key.now c.args.prefix.now c.args.at in
+    let u = set_up_with c.args.agreement.key.now c.args.agreement.prefix.now c.args.agreement.at in
     let ran = MatchResult-at_ok _ _ c.in_ok-closed.closed c.in_ok-closed.was c.run_through-ran.ensures in
     let told = c.tally-tally.ensures ∙ ap g.R.Route.tally c.retire.ensures in
     subst (λ r. EndRan (u (g.R.Route.tally r)) (vec_items c.args.calls) end) c.new-engine.ensures.route (end_ran (u (g.R.Route.tally c.new-engine.result.route)) (vec_items c.args.calls) end _ told ran.0 ran.1)
