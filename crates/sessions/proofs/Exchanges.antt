@@ -2,16 +2,19 @@
 use Rattle.std.proofs.Common.{◌≡◌, ℕ, ◌+◌, ◌<◌, ◌≤◌, List, [], ◌∷◌, ◌++◌, map, length, get_or, take, drop, set, vec_items, vec_len, Ok, Err, IsOkAnd, MatchResult, Result, Vec, sym, refl, ap, ◌∙◌, subst, ap₂, add-zero, arith, length-append, get_or-drop, take_all, drop-drop, drop-set-lt}
 use mathlib.Core.List.{map-append}
 use lib.ListN.{length-map}
-use Rattle.std.proofs.lemmas.List.{with_items_is, take_more, take_more_set}
+use Rattle.std.proofs.lemmas.List.{with_items_is, take_more}
+use Rattle.std.proofs.lemmas.List.Elements.{same_from_all_zip}
 use Rattle.std.specs.Vec.{with_items}
 use Rattle.std.specs.declared.alloc.Global.{Global}
 use Rattle.routes.specs.declared.refusal.Refusal.{Refusal}
-use Rattle.sessions.specs.Calls.{Answer, cover, covers}
-use Rattle.sessions.specs.Exchanges.{call_in, given_in, answer_in, shape_in, run_in, event_in, events_in, CarriedOne, Carried}
+use Rattle.sessions.specs.Calls.{Answer, cover, skip, covers}
+use Rattle.sessions.specs.Exchanges.{call_in, given_in, answer_in, shape_in, run_in, event_in, events_in, calls_left, answers_given, CarriedOne, Carried}
 use Rattle.sessions.specs.Histories.{Held, Event, Promised, History, none, then}
 use Rattle.sessions.specs.Reading.{number_given, numbers_given}
+use Rattle.sessions.specs.contracts.call.SessionCallClone.TheImpl.{by_variants}
+use Rattle.sessions.specs.declared.call.Answered.{Answered}
 use Rattle.sessions.specs.declared.call.SessionCall.{SessionCall}
-use Rattle.sessions.specs.declared.call.SessionCall.TheVariants.{Cover}
+use Rattle.sessions.specs.declared.call.SessionCall.TheVariants.{Cover, Skip, Remaining}
 use Rattle.sessions.specs.declared.call.Given.{Given}
 use Rattle.sessions.specs.declared.call.Given.TheVariants.{Left}
 use Rattle.sessions.specs.declared.call.Given.TheVariants.{Used as used}
@@ -84,33 +87,35 @@ carried_more {h = h} {h'' = h''} {cs = cs} {cs' = cs'} {as' = as'} {c = c} {c' =
       same_shapes = map-append shape_in cs' (c' ∷ []) ∙ ap₂ (λ xs x. xs ++ x ∷ []) all.same_shapes one.same_shape ∙ sym (map-append shape_in cs (c ∷ []));
     }
 
--- One more call of a list that is carried out in place: `before` is the list as it was passed, and `now'` as it is.
-module _ (before now' : List SessionCall) (i : ℕ) (below : i < length now') (sized : length now' ≡ length before) (rest : drop i now' ≡ drop i before) where
-  same_call : (d : SessionCall) → get_or now' i d ≡ get_or before i d
-  same_call d = at_start now' ∙ ap (λ xs. get_or xs 0 d) rest ∙ sym (at_start before)
-    where
-      at_start : (xs : List SessionCall) → get_or xs i d ≡ get_or (drop i xs) 0 d
-      at_start xs = sym (get_or-drop i xs 0 d ∙ ap (λ n. get_or xs n d) (add-zero i))
+-- One more call of a list that is carried out, and noted with its answer.
+pub noted_more : {h h' h'' : Held} {cs : List SessionCall} (xs ys : List Answered) {c : SessionCall} (x : Answered) → ys ≡ xs ++ x ∷ [] → Carried h cs (answers_given xs) (calls_left xs) h' → CarriedOne h' c x.answer x.call h'' → Carried h (cs ++ c ∷ []) (answers_given ys) (calls_left ys) h''
+noted_more {h = h} {h'' = h''} {cs = cs} xs ys {c = c} x noted all one =
+    subst (λ as'. Carried h (cs ++ c ∷ []) as' (calls_left ys) h'') (sym answers_are) (subst (λ cs'. Carried h (cs ++ c ∷ []) (answers_given xs ++ x.answer ∷ []) cs' h'') (sym calls_are) (carried_more all one))
+  where
+    answers_are : answers_given ys ≡ answers_given xs ++ x.answer ∷ []
+    answers_are = ap answers_given noted ∙ map-append (λ a. a.answer) xs (x ∷ [])
 
-  pub carried_next : {h h' h'' : Held} {as' as'' : List (Result Given Refusal)} (d c' : SessionCall) {a : Result Given Refusal} → as'' ≡ as' ++ a ∷ [] → Carried h (take i before) as' (take i now') h' → CarriedOne h' (get_or now' i d) a c' h'' → Carried h (take (i + 1) before) as'' (take (i + 1) (set now' i c')) h''
-  carried_next {h = h} {h'' = h''} {as' = as'} {as'' = as''} d c' {a = a} noted all one = subst (λ bs. Carried h (take (i + 1) before) bs (take (i + 1) (set now' i c')) h'') (sym noted) next
-    where
-      here : take (i + 1) before ≡ take i before ++ get_or now' i d ∷ []
-      here = take_more before i d (omega arith) ∙ ap (λ x. take i before ++ x ∷ []) (sym (same_call d))
+    calls_are : calls_left ys ≡ calls_left xs ++ x.call ∷ []
+    calls_are = ap calls_left noted ∙ map-append (λ a. a.call) xs (x ∷ [])
 
-      next : Carried h (take (i + 1) before) (as' ++ a ∷ []) (take (i + 1) (set now' i c')) h''
-      next =
-          subst (λ cs. Carried h cs (as' ++ a ∷ []) (take (i + 1) (set now' i c')) h'') (sym here) (subst (λ cs. Carried h (take i before ++ get_or now' i d ∷ []) (as' ++ a ∷ []) cs h'') (sym (take_more_set now' i c' below)) (carried_more all one))
+-- ---- copies
 
-  pub rest_next : (c' : SessionCall) → drop (i + 1) (set now' i c') ≡ drop (i + 1) before
-  rest_next c' = drop-set-lt (i + 1) now' i c' (omega arith) ∙ sym (drop-drop 1 i now') ∙ ap (drop 1) rest ∙ drop-drop 1 i before
-
--- The whole list has been carried out, in the place where it stands.
-pub carried_all : {h h' : Held} {as' : List (Result Given Refusal)} (before now' given left : List SessionCall) (i : ℕ) → length before ≤ i → length now' ≤ i → before ≡ given → left ≡ now' → Carried h (take i before) as' (take i now') h' → Carried h given as' left h'
-carried_all {h = h} {h' = h'} {as' = as'} before now' given left i p q passed kept all =
-    subst (λ cs. Carried h cs as' left h') (take_all i before p ∙ passed) (subst (λ cs. Carried h (take i before) as' cs h') (take_all i now' q ∙ sym kept) all)
+-- A clone of a call is the same call.
+pub cloned : (c c' : SessionCall) → by_variants c c' → call_in c' ≡ call_in c
+cloned (Cover v) (Cover w) h = ap cover (same_from_all_zip _ (vec_items v) (vec_items w) h.0 (λ x y same. same))
+cloned (Cover v) (Skip m) h = absurd h
+cloned (Cover v) Remaining h = absurd h
+cloned (Skip n) (Cover w) h = absurd h
+cloned (Skip n) (Skip m) h = ap skip h
+cloned (Skip n) Remaining h = absurd h
+cloned Remaining (Cover w) h = absurd h
+cloned Remaining (Skip m) h = absurd h
+cloned Remaining Remaining h = refl
 
 -- One more call of a list has been copied.
-pub copied_more : (calls copies copies' : List SessionCall) (copy d : SessionCall) (i : ℕ) → i < length calls → copies' ≡ copies ++ copy ∷ [] → map call_in copies ≡ map call_in (take i calls) → call_in copy ≡ call_in (get_or calls i d) → map call_in copies' ≡ map call_in (take (i + 1) calls)
-copied_more calls copies copies' copy d i below pushed all one =
-    ap (map call_in) pushed ∙ map-append call_in copies (copy ∷ []) ∙ ap₂ (λ xs x. xs ++ x ∷ []) all one ∙ sym (map-append call_in (take i calls) (get_or calls i d ∷ [])) ∙ ap (map call_in) (sym (take_more calls i d below))
+pub copied_more : (xs : List Answered) (copies copies' : List SessionCall) (copy : SessionCall) (d : Answered) (i : ℕ) → i < length xs → copies' ≡ copies ++ copy ∷ [] → map call_in copies ≡ map call_in (calls_left (take i xs)) → call_in copy ≡ call_in (get_or xs i d).call → map call_in copies' ≡ map call_in (calls_left (take (i + 1) xs))
+copied_more xs copies copies' copy d i below pushed all one =
+    ap (map call_in) pushed ∙ map-append call_in copies (copy ∷ []) ∙ ap₂ (λ cs c. cs ++ c ∷ []) all one ∙ sym (map-append call_in (calls_left (take i xs)) (x.call ∷ [])) ∙ ap (map call_in) (sym (map-append (λ a. a.call) (take i xs) (x ∷ []))) ∙ ap (λ ys. map call_in (calls_left ys)) (sym (take_more xs i d below))
+  where
+    x : Answered
+    x = get_or xs i d

@@ -1,5 +1,6 @@
 -- Set-ups that are taken, the ends that run from them, and what two ends make of one list. Assumes nothing.
 use Rattle.std.proofs.Common.{◌≡◌, ℕ, ◌+◌, ◌<◌, ◌≤◌, true, false, leb, List, [], ◌∷◌, map, length, Some, None, Err, vec_items, Option, Result, sym, refl, ap, ◌∙◌, subst, ap₂, ⊎_elim, arith}
+use lib.ListN.{length-map}
 use Rattle.std.proofs.lemmas.Bool.{le-leb, lt-leb, cond-true, cond-false, cases_Bool}
 use Rattle.std.proofs.lemmas.Bool.Decides.{nat_tests}
 use Rattle.cipher.specs.Engines.{engine_key}
@@ -10,7 +11,7 @@ use Rattle.routes.specs.Refusals.{numbers}
 use Rattle.routes.specs.declared.refusal.Refusal.{Refusal}
 use Rattle.sessions.specs.Counters.{counters}
 use Rattle.sessions.specs.Calls.{shape, ruled_all}
-use Rattle.sessions.specs.Exchanges.{call_in, answer_in, shape_in, run_in, events_in, first_of, set_up_verdict, held_at_end, account_of, Carried, EndRan, BothRan, Failed, Exchanged}
+use Rattle.sessions.specs.Exchanges.{call_in, answer_in, shape_in, run_in, calls_left, answers_given, events_in, first_of, set_up_verdict, held_at_end, account_of, Carried, EndRan, BothRan, Failed, Exchanged}
 use Rattle.sessions.specs.Histories.{SetUp, Allowed, opened, answers, shapes, runs_before, runs_after}
 use Rattle.sessions.specs.Laws.{Fed, fed_none, fed_then, Uncovers}
 use Rattle.sessions.specs.Places.{Ran}
@@ -89,12 +90,12 @@ run_carried tally u e e' s s' closed {cs = cs} {cs' = cs'} {as' = as'} key-is ta
     finish =
         held_path (held_by tally e' s') (held_at_end u closed (tally e'.route)) (sums from_start.history).same_key (sums from_start.history).same_prefix (sym closed_is) refl
 
-pub end_ran : (u : SetUp) (cs : List SessionCall) (end : End) (tally : ℕ) → end.tally ≡ tally → set_up_verdict u ≡ None → Carried (opened u) cs (vec_items end.answers) (vec_items end.calls) (held_at_end u end.closed tally) → EndRan u cs end
+pub end_ran : (u : SetUp) (cs : List SessionCall) (end : End) (tally : ℕ) → end.tally ≡ tally → set_up_verdict u ≡ None → Carried (opened u) cs (answers_given (vec_items end.answered)) (calls_left (vec_items end.answered)) (held_at_end u end.closed tally) → EndRan u cs end
 end_ran u cs end tally told none carried =
-    let all = subst (λ n. Carried (opened u) cs (vec_items end.answers) (vec_items end.calls) (held_at_end u end.closed n)) (sym told) carried in
+    let all = subst (λ n. Carried (opened u) cs (answers_given (vec_items end.answered)) (calls_left (vec_items end.answered)) (held_at_end u end.closed n)) (sym told) carried in
     record {
       ran = record { allowed = allowed_by u none; history = all.history };
-      all_answered = all.all_answered;
+      all_answered = sym (length-map (vec_items end.answered) (λ a. a.answer)) ∙ all.all_answered;
       same_shapes = all.same_shapes;
     }
 
@@ -160,14 +161,18 @@ pub copied_ran : (u : SetUp) (cs ds : List SessionCall) (end : End) → map call
 copied_ran u cs ds end same ran =
     let same_shape = copied_shapes cs ds same in
     record {
-      ran = subst (λ es. Ran record { set_up = u; events = es; end = held_at_end u end.closed end.tally }) (copied_events cs ds (vec_items end.answers) (vec_items end.calls) same) ran.ran;
+      ran = subst (λ es. Ran record { set_up = u; events = es; end = held_at_end u end.closed end.tally }) (copied_events cs ds (answers_given (vec_items end.answered)) (calls_left (vec_items end.answered)) same) ran.ran;
       all_answered = ran.all_answered ∙ same_lengths ds cs same_shape;
       same_shapes = ran.same_shapes ∙ same_shape;
     }
 
 -- ---- two ends
 
-pub both_ran : (u : SetUp) (cs : List SessionCall) (t g : End) → EndRan u cs t → EndRan u (vec_items t.calls) g → BothRan u cs t g
+-- An end gave one answer to each call.
+all_given : (u : SetUp) (cs : List SessionCall) (end : End) → EndRan u cs end → length (answers_given (vec_items end.answered)) ≡ length cs
+all_given u cs end ran = length-map (vec_items end.answered) (λ a. a.answer) ∙ ran.all_answered
+
+pub both_ran : (u : SetUp) (cs : List SessionCall) (t g : End) → EndRan u cs t → EndRan u (calls_left (vec_items t.answered)) g → BothRan u cs t g
 both_ran u cs t g at-t at_g =
     record {
       at_transmitter = at-t;
@@ -182,24 +187,24 @@ both_ran u cs t g at-t at_g =
       same_closing = ap (λ h. h.next) back.same_end;
     }
   where
-    sent_all : length (vec_items t.calls) ≡ length cs
-    sent_all = same_lengths cs (vec_items t.calls) at-t.same_shapes
+    sent_all : length (calls_left (vec_items t.answered)) ≡ length cs
+    sent_all = same_lengths cs (calls_left (vec_items t.answered)) at-t.same_shapes
 
-    left_all : length (vec_items g.calls) ≡ length (vec_items t.calls)
-    left_all = same_lengths (vec_items t.calls) (vec_items g.calls) at_g.same_shapes
+    left_all : length (calls_left (vec_items g.answered)) ≡ length (calls_left (vec_items t.answered))
+    left_all = same_lengths (calls_left (vec_items t.answered)) (calls_left (vec_items g.answered)) at_g.same_shapes
 
-    parts_t : Parts cs (vec_items t.answers) (vec_items t.calls)
-    parts_t = parts cs (vec_items t.answers) (vec_items t.calls) at-t.all_answered sent_all
+    parts_t : Parts cs (answers_given (vec_items t.answered)) (calls_left (vec_items t.answered))
+    parts_t = parts cs (answers_given (vec_items t.answered)) (calls_left (vec_items t.answered)) (all_given u cs t at-t) sent_all
 
-    parts_g : Parts (vec_items t.calls) (vec_items g.answers) (vec_items g.calls)
-    parts_g = parts (vec_items t.calls) (vec_items g.answers) (vec_items g.calls) at_g.all_answered left_all
+    parts_g : Parts (calls_left (vec_items t.answered)) (answers_given (vec_items g.answered)) (calls_left (vec_items g.answered))
+    parts_g = parts (calls_left (vec_items t.answered)) (answers_given (vec_items g.answered)) (calls_left (vec_items g.answered)) (all_given u (calls_left (vec_items t.answered)) g at_g) left_all
 
-    fed_calls : Fed (account_of u cs t).events (account_of u (vec_items t.calls) g).events
+    fed_calls : Fed (account_of u cs t).events (account_of u (calls_left (vec_items t.answered)) g).events
     fed_calls =
-        fed_in cs (vec_items t.answers) (vec_items t.calls) (vec_items g.answers) (vec_items g.calls) at-t.all_answered at_g.all_answered left_all at-t.same_shapes
+        fed_in cs (answers_given (vec_items t.answered)) (calls_left (vec_items t.answered)) (answers_given (vec_items g.answered)) (calls_left (vec_items g.answered)) (all_given u cs t at-t) (all_given u (calls_left (vec_items t.answered)) g at_g) left_all at-t.same_shapes
 
-    back : Uncovers (account_of u cs t) (account_of u (vec_items t.calls) g)
-    back = the_other_end_uncovers (account_of u cs t) (account_of u (vec_items t.calls) g) at-t.ran at_g.ran refl fed_calls
+    back : Uncovers (account_of u cs t) (account_of u (calls_left (vec_items t.answered)) g)
+    back = the_other_end_uncovers (account_of u cs t) (account_of u (calls_left (vec_items t.answered)) g) at-t.ran at_g.ran refl fed_calls
 
 -- What an exchange that failed returns.
 pub failed_exit : (u : SetUp) (cs : List SessionCall) {r : Result BothEnds ExchangeError} {e : ExchangeError} → r ≡ Err e → Failed u e → Exchanged u cs r

@@ -9,6 +9,7 @@ use Rattle.sessions.specs.Histories.{Held, Event, Promised, History, SetUp, open
 use Rattle.sessions.specs.Laws.{Fed}
 use Rattle.sessions.specs.Places.{Account, Ran}
 use Rattle.sessions.specs.Reading.{opening_number, open_verdict}
+use Rattle.sessions.specs.declared.call.Answered.{Answered}
 use Rattle.sessions.specs.declared.call.SessionCall.{SessionCall}
 use Rattle.sessions.specs.declared.call.SessionCall.TheVariants.{Cover, Skip, Remaining}
 use Rattle.sessions.specs.declared.call.Given.{Given}
@@ -63,6 +64,13 @@ pub record Carried (h : Held) (cs : List SessionCall) (as' : List (Result Given 
   pub all_answered : length as' ≡ length cs
   pub same_shapes : map shape_in cs' ≡ map shape_in cs
 
+-- The calls of a list that was carried out, with their runs as they were left, and their answers.
+abbrev pub calls_left : List Answered → List SessionCall
+calls_left = map (λ a. a.call)
+
+abbrev pub answers_given : List Answered → List (Result Given Refusal)
+answers_given = map (λ a. a.answer)
+
 -- ---- one end
 
 -- A set-up, by what is passed: it opens at 0 where no number is given.
@@ -97,15 +105,15 @@ abbrev pub account_of : SetUp → List SessionCall → End → Account
 account_of u cs end =
     record {
       set_up = u;
-      events = events_in cs (vec_items end.answers) (vec_items end.calls);
+      events = events_in cs (answers_given (vec_items end.answered)) (calls_left (vec_items end.answered));
       end = held_at_end u end.closed end.tally;
     }
 
 -- An end ran from a set-up: its account is true, it has one answer to each call, and its calls keep their shapes.
 pub record EndRan (u : SetUp) (cs : List SessionCall) (end : End) : Type 0 where
   pub ran : Ran (account_of u cs end)
-  pub all_answered : length (vec_items end.answers) ≡ length cs
-  pub same_shapes : map shape_in (vec_items end.calls) ≡ map shape_in cs
+  pub all_answered : length (vec_items end.answered) ≡ length cs
+  pub same_shapes : map shape_in (calls_left (vec_items end.answered)) ≡ map shape_in cs
 
 -- Why an end did not run: the set-up was refused, or memory ran short.
 abbrev pub Failed : SetUp → ExchangeError → Type 0
@@ -120,11 +128,11 @@ Ended u cs r = MatchResult r (EndRan u cs) (Failed u)
 -- Both ends ran from one set-up, the gateway on what the transmitter left; and what the laws come to for these two.
 pub record BothRan (u : SetUp) (cs : List SessionCall) (transmitter gateway : End) : Type 0 where
   pub at_transmitter : EndRan u cs transmitter
-  pub at_gateway : EndRan u (vec_items transmitter.calls) gateway
-  pub fed : Fed (account_of u cs transmitter).events (account_of u (vec_items transmitter.calls) gateway).events
-  pub runs_come_back : map run_in (vec_items gateway.calls) ≡ map run_in cs
-  pub same_answers : map answer_in (vec_items gateway.answers) ≡ map answer_in (vec_items transmitter.answers)
-  pub answers_are_the_rules : map answer_in (vec_items transmitter.answers) ≡ ruled_all (length u.key) u.opening (u.starting + key_cost (length u.key)) (map shape_in cs)
+  pub at_gateway : EndRan u (calls_left (vec_items transmitter.answered)) gateway
+  pub fed : Fed (account_of u cs transmitter).events (account_of u (calls_left (vec_items transmitter.answered)) gateway).events
+  pub runs_come_back : map run_in (calls_left (vec_items gateway.answered)) ≡ map run_in cs
+  pub same_answers : map answer_in (answers_given (vec_items gateway.answered)) ≡ map answer_in (answers_given (vec_items transmitter.answered))
+  pub answers_are_the_rules : map answer_in (answers_given (vec_items transmitter.answered)) ≡ ruled_all (length u.key) u.opening (u.starting + key_cost (length u.key)) (map shape_in cs)
   pub tally_is_the_sum : transmitter.tally ≡ u.starting + key_cost (length u.key) + key_rounds (length u.key) * covered_all (account_of u cs transmitter).events
   pub closed_at_the_sum : transmitter.closed ≡ u.opening + used_all (account_of u cs transmitter).events
   pub same_tally : gateway.tally ≡ transmitter.tally

@@ -24,3 +24,10 @@ pub enum Given {
 
 /// What a call was answered: what it gave, or why it was refused.
 pub type SessionAnswer = Result<Given, Refusal>;
+
+/// A call that was carried out, with its run as it was left, and its answer.
+#[derive(Drop)]
+pub struct Answered {
+    pub call: SessionCall,
+    pub answer: SessionAnswer,
+}

@@ -1,9 +1,9 @@
 //! Carrying out calls of a session that are given as values.
 ghost use Rattle.std.specs.Prelude.{◌≡◌, ◌≤◌, [], replicate, vec_len, vec_capacity};
-ghost use Rattle.sessions.specs.Exchanges.{CarriedOne, Carried};
+ghost use Rattle.sessions.specs.Exchanges.{answers_given, calls_left, CarriedOne, Carried};
 ghost use Rattle.sessions.specs.Reading.{held_by};
 
-use crate::call::{Given, SessionAnswer, SessionCall};
+use crate::call::{Answered, Given, SessionAnswer, SessionCall};
 use crate::session::Session;
 use cipher::Engine;
 use routes::Route;
@@ -26,20 +26,20 @@ fn carry_out_one<R: Route>(
     }
 }
 
-/// Carries out a list of calls, one after the other, and notes the answers in a list that has room for them.
+/// Carries out a list of calls, one after the other, and notes each with its answer in a list that has room for them.
 pub(crate) fn carry_out<R: Route>(
     session: &mut Session,
     engine: &mut Engine<R>,
-    calls: &mut Vec<SessionCall>,
-    answers: &mut Vec<SessionAnswer>,
+    calls: Vec<SessionCall>,
+    answered: &mut Vec<Answered>,
 )
-    requires none { answers.old.items ≡ [] }
-    requires room { vec_len calls.old ≤ vec_capacity answers.old }
-    ensures { Carried (held_by R.Route.tally engine.old session.old) calls.old.items answers.new.items calls.new.items (held_by R.Route.tally engine.new session.new) }
+    requires none { answered.old.items ≡ [] }
+    requires room { vec_len calls ≤ vec_capacity answered.old }
+    ensures { Carried (held_by R.Route.tally engine.old session.old) calls.items (answers_given answered.new.items) (calls_left answered.new.items) (held_by R.Route.tally engine.new session.new) }
 {
     let mut pad = [0; 16];
-    for call in calls.iter_mut() {
-        let answer = carry_out_one(session, engine, call, &mut pad);
-        answers.push_reserved(answer);
+    for mut call in calls {
+        let answer = carry_out_one(session, engine, &mut call, &mut pad);
+        answered.push_reserved(Answered { call, answer });
     }
 }

@@ -39,7 +39,7 @@ pub fn exchange<A: Route, B: Route>(
     let near = near?;
     let far = far?;
     let transmitter = run_end(heap, near, agreement, calls)?;
-    let sent = copies_of(heap, &transmitter.calls)?;
+    let sent = copies_of(heap, &transmitter.answered)?;
     let gateway = run_end(heap, far, agreement, sent)?;
     Ok(BothEnds {
         transmitter,

@@ -22,7 +22,7 @@ mod stream;
 mod used;
 
 pub use agreement::Agreement;
-pub use call::{Given, SessionAnswer, SessionCall};
+pub use call::{Answered, Given, SessionAnswer, SessionCall};
 pub use client::{cover_then_close, cover_then_retire, remaining_at_close};
 pub use ends::end::End;
 pub use ends::error::ExchangeError;

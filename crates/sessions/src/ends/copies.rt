@@ -1,31 +1,17 @@
 //! Copies of calls, to be fed to the other end.
 ghost use Rattle.std.specs.Prelude.{◌≡◌, map, IfOk};
-ghost use Rattle.sessions.specs.Exchanges.{call_in};
+ghost use Rattle.sessions.specs.Exchanges.{call_in, calls_left};
 
-use crate::call::SessionCall;
+use crate::call::{Answered, SessionCall};
 use std::alloc::{AllocError, Global};
 
-/// A copy of a call.
-fn copy_of(call: &SessionCall) -> Result<SessionCall, AllocError>
-    ensures { IfOk result (λ c. call_in c ≡ call_in call.now) }
-{
-    match call {
-        SessionCall::Cover(run) => {
-            let run = run.clone()?;
-            Ok(SessionCall::Cover(run))
-        }
-        SessionCall::Skip(n) => Ok(SessionCall::Skip(*n)),
-        SessionCall::Remaining => Ok(SessionCall::Remaining),
-    }
-}
-
-/// Copies of a list of calls.
-pub(crate) fn copies_of(heap: Global, calls: &[SessionCall]) -> Result<Vec<SessionCall>, AllocError>
-    ensures { IfOk result (λ v. map call_in v.items ≡ map call_in calls.now) }
+/// Copies of the calls as one end left them. `try_collect` of the clones gets no proof of what they are.
+pub(crate) fn copies_of(heap: Global, answered: &[Answered]) -> Result<Vec<SessionCall>, AllocError>
+    ensures { IfOk result (λ v. map call_in v.items ≡ map call_in (calls_left answered.now)) }
 {
     let mut copies = Vec::new(heap);
-    for call in calls {
-        let copy = copy_of(call)?;
+    for one in answered {
+        let copy = one.call.clone()?;
         copies.push(copy)?;
     }
     Ok(copies)

@@ -1,9 +1,9 @@
 //! One end of an exchange: an engine and a session from a set-up, a list of calls, and what is left at the end.
 ghost use Rattle.std.specs.Prelude.{◌≡◌, ◌≤◌, [], vec_len, vec_capacity};
-ghost use Rattle.sessions.specs.Exchanges.{set_up_with, RunThrough, Ended};
+ghost use Rattle.sessions.specs.Exchanges.{answers_given, calls_left, set_up_with, RunThrough, Ended};
 
 use crate::agreement::Agreement;
-use crate::call::{SessionAnswer, SessionCall};
+use crate::call::{Answered, SessionCall};
 use crate::carry::carry_out;
 use crate::ends::error::ExchangeError;
 use crate::session::Session;
@@ -14,10 +14,8 @@ use std::alloc::Global;
 /// What an end has to show when it has closed its session and retired its engine.
 #[derive(Drop)]
 pub struct End {
-    /// The calls, with their runs as this end left them.
-    pub calls: Vec<SessionCall>,
-    /// The answers, one to each call.
-    pub answers: Vec<SessionAnswer>,
+    /// The calls, with their runs as this end left them, each with its answer.
+    pub answered: Vec<Answered>,
     /// The number at which the session closed.
     pub closed: u64,
     /// The tally of the route.
@@ -28,16 +26,16 @@ pub struct End {
 fn run_through<R: Route>(
     engine: &mut Engine<R>,
     agreement: Agreement,
-    calls: &mut Vec<SessionCall>,
-    answers: &mut Vec<SessionAnswer>,
+    calls: Vec<SessionCall>,
+    answered: &mut Vec<Answered>,
 ) -> Result<u64, Refusal>
-    requires none { answers.old.items ≡ [] }
-    requires room { vec_len calls.old ≤ vec_capacity answers.old }
-    ensures { RunThrough (set_up_with agreement.entry.key.now agreement.entry.prefix.now agreement.entry.at (R.Route.tally engine.old.route)) calls.old.items answers.new.items calls.new.items (R.Route.tally engine.new.route) result }
+    requires none { answered.old.items ≡ [] }
+    requires room { vec_len calls ≤ vec_capacity answered.old }
+    ensures { RunThrough (set_up_with agreement.entry.key.now agreement.entry.prefix.now agreement.entry.at (R.Route.tally engine.old.route)) calls.items (answers_given answered.new.items) (calls_left answered.new.items) (R.Route.tally engine.new.route) result }
 {
     engine.set_key(agreement.key)?;
     let mut session = Session::open(agreement.prefix, agreement.at)?;
-    carry_out(&mut session, engine, calls, answers);
+    carry_out(&mut session, engine, calls, answered);
     Ok(session.close())
 }
 
@@ -47,18 +45,17 @@ pub(crate) fn run_end<R: Route>(
     heap: Global,
     route: R,
     agreement: Agreement,
-    mut calls: Vec<SessionCall>,
+    calls: Vec<SessionCall>,
 ) -> Result<End, ExchangeError>
     ensures { Ended (set_up_with agreement.entry.key.now agreement.entry.prefix.now agreement.entry.at (R.Route.tally route)) calls.items result }
 {
-    let mut answers = Vec::with_capacity(heap, calls.len())?;
+    let mut answered = Vec::with_capacity(heap, calls.len())?;
     let mut engine = Engine::new(route);
-    let ran = run_through(&mut engine, agreement, &mut calls, &mut answers);
+    let ran = run_through(&mut engine, agreement, calls, &mut answered);
     let tally = engine.retire().tally();
     let closed = ran?;
     Ok(End {
-        calls,
-        answers,
+        answered,
         closed,
         tally,
     })

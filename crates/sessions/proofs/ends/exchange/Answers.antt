@@ -1,6 +1,6 @@
 use Rattle.std.proofs.Common.{map, vec_items, sym, ap, ◌∙◌, subst}
 use Rattle.std.proofs.lemmas.Result.{err_from_is_err_and}
-use Rattle.sessions.specs.Exchanges.{call_in, set_up_with, Failed, EndRan}
+use Rattle.sessions.specs.Exchanges.{call_in, calls_left, set_up_with, Failed, EndRan}
 use Rattle.sessions.proofs.SessionLaws.{session_laws}
 use Rattle.sessions.proofs.SetUps.{start_refused, failed_exit, copied_ran, both_ran}
 use Rattle.sessions.proofs.ends.exchange.Goals as goal
@@ -40,5 +40,5 @@ returns g c =
     let sent = vec_items c.in_ok-sent.sent in
     let at-t = subst (λ n. EndRan (u n) calls t) c.in_ok-near.ensures.made.1 c.in_ok-transmitter.ensures in
     let at_g = subst (λ n. EndRan (u n) sent gw) c.in_ok-far.ensures.made.1 c.in_ok-gateway.ensures in
-    let copied = c.in_ok-sent.ensures ∙ ap (map call_in) c.deref.ensures.value in
-    record { ends = both_ran (u c.args.agreement.start) calls t gw at-t (copied_ran (u c.args.agreement.start) sent (vec_items t.calls) gw copied at_g); laws = session_laws }
+    let copied = c.in_ok-sent.ensures ∙ ap (λ xs. map call_in (calls_left xs)) c.deref.ensures.value in
+    record { ends = both_ran (u c.args.agreement.start) calls t gw at-t (copied_ran (u c.args.agreement.start) sent (calls_left (vec_items t.answered)) gw copied at_g); laws = session_laws }

@@ -7,7 +7,7 @@ use Rattle.sessions.proofs.ends.end.run_end.Goals as goal
 
 pub returns : goal.returns
 returns g c =
-    let end : End = record { calls = c.run_through-ran.new.calls; answers = c.run_through-ran.new.answers; closed = c.in_ok-closed.closed; tally = c.tally-tally.result } in
+    let end : End = record { answered = c.run_through-ran.new.answered; closed = c.in_ok-closed.closed; tally = c.tally-tally.result } in
     let u = set_up_with c.args.agreement.key.now c.args.agreement.prefix.now c.args.agreement.at in
     let ran = MatchResult-at_ok _ _ c.in_ok-closed.closed c.in_ok-closed.was c.run_through-ran.ensures in
     let told = c.tally-tally.ensures ∙ ap g.R.Route.tally c.retire.ensures in
