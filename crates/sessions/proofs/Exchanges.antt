@@ -1,5 +1,5 @@
 -- Calls as values: what carrying out one and carrying out a list come to. Assumes nothing.
-use Rattle.std.proofs.Common.{◌≡◌, ℕ, ◌+◌, ◌<◌, ◌≤◌, List, [], ◌∷◌, ◌++◌, map, length, get_or, take, drop, set, vec_items, vec_len, Ok, Err, IsOkAnd, MatchResult, Result, Vec, sym, refl, ap, ◌∙◌, subst, ap₂, add-zero, arith, length-append, get_or-drop, take_all, drop-drop, drop-set-lt}
+use Rattle.std.proofs.Common.{◌≡◌, ℕ, ◌+◌, ◌<◌, List, [], ◌∷◌, ◌++◌, map, length, get_or, take, vec_items, vec_len, Ok, Err, IsOkAnd, MatchResult, Result, Vec, sym, refl, ap, ◌∙◌, subst, ap₂, arith, length-append}
 use mathlib.Core.List.{map-append}
 use lib.ListN.{length-map}
 use Rattle.std.proofs.lemmas.List.{with_items_is, take_more}

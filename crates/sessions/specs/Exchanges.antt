@@ -9,6 +9,7 @@ use Rattle.sessions.specs.Histories.{Held, Event, Promised, History, SetUp, open
 use Rattle.sessions.specs.Laws.{Fed}
 use Rattle.sessions.specs.Places.{Account, Ran}
 use Rattle.sessions.specs.Reading.{opening_number, open_verdict}
+use Rattle.sessions.specs.declared.agreement.Agreement.{Agreement}
 use Rattle.sessions.specs.declared.call.Answered.{Answered}
 use Rattle.sessions.specs.declared.call.SessionCall.{SessionCall}
 use Rattle.sessions.specs.declared.call.SessionCall.TheVariants.{Cover, Skip, Remaining}
@@ -76,6 +77,10 @@ answers_given = map (λ a. a.answer)
 -- A set-up, by what is passed: it opens at 0 where no number is given.
 abbrev pub set_up_with : List ℕ → List ℕ → Option ℕ → ℕ → SetUp
 set_up_with key prefix at start = record { key = key; prefix = prefix; opening = opening_number at; starting = start }
+
+-- The set-up of an end, by what is agreed and its route's tally.
+abbrev pub agreed : Agreement → ℕ → SetUp
+agreed a start = set_up_with a.key.now a.prefix.now a.at start
 
 -- The first refusal of two, if there is one.
 abbrev pub first_of : Option (ℕ × ℕ) → Option (ℕ × ℕ) → Option (ℕ × ℕ)

@@ -1,5 +1,5 @@
 //! The exchange of two ends: what a transmitter covers, a gateway uncovers.
-ghost use Rattle.sessions.specs.Exchanges.{set_up_with, Exchanged};
+ghost use Rattle.sessions.specs.Exchanges.{agreed, Exchanged};
 ghost use Rattle.sessions.specs.Laws.{SessionLaws};
 
 use crate::agreement::Agreement;
@@ -31,9 +31,10 @@ pub fn exchange<A: Route, B: Route>(
     agreement: Agreement,
     calls: Vec<SessionCall>,
 ) -> Result<BothEnds, ExchangeError>
-    ensures ends { Exchanged (set_up_with agreement.entry.key.now agreement.entry.prefix.now agreement.entry.at agreement.entry.start) calls.items result }
+    ensures ends { Exchanged (agreed agreement.entry agreement.entry.start) calls.items result }
     ensures laws { SessionLaws }
 {
+    // Both choices are used up before either refusal is told: they may be values that cannot be let go.
     let near = A::new(transmitter, agreement.start);
     let far = B::new(gateway, agreement.start);
     let near = near?;

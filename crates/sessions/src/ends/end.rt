@@ -1,6 +1,6 @@
 //! One end of an exchange: an engine and a session from a set-up, a list of calls, and what is left at the end.
 ghost use Rattle.std.specs.Prelude.{◌≡◌, ◌≤◌, [], vec_len, vec_capacity};
-ghost use Rattle.sessions.specs.Exchanges.{answers_given, calls_left, set_up_with, RunThrough, Ended};
+ghost use Rattle.sessions.specs.Exchanges.{answers_given, agreed, calls_left, RunThrough, Ended};
 
 use crate::agreement::Agreement;
 use crate::call::{Answered, SessionCall};
@@ -31,7 +31,7 @@ fn run_through<R: Route>(
 ) -> Result<u64, Refusal>
     requires none { answered.old.items ≡ [] }
     requires room { vec_len calls ≤ vec_capacity answered.old }
-    ensures { RunThrough (set_up_with agreement.entry.key.now agreement.entry.prefix.now agreement.entry.at (R.Route.tally engine.old.route)) calls.items (answers_given answered.new.items) (calls_left answered.new.items) (R.Route.tally engine.new.route) result }
+    ensures { RunThrough (agreed agreement.entry (R.Route.tally engine.old.route)) calls.items (answers_given answered.new.items) (calls_left answered.new.items) (R.Route.tally engine.new.route) result }
 {
     engine.set_key(agreement.key)?;
     let mut session = Session::open(agreement.prefix, agreement.at)?;
@@ -47,7 +47,7 @@ pub(crate) fn run_end<R: Route>(
     agreement: Agreement,
     calls: Vec<SessionCall>,
 ) -> Result<End, ExchangeError>
-    ensures { Ended (set_up_with agreement.entry.key.now agreement.entry.prefix.now agreement.entry.at (R.Route.tally route)) calls.items result }
+    ensures { Ended (agreed agreement.entry (R.Route.tally route)) calls.items result }
 {
     let mut answered = Vec::with_capacity(heap, calls.len())?;
     let mut engine = Engine::new(route);

@@ -1,10 +1,10 @@
-use Rattle.sessions.specs.Exchanges.{set_up_with}
+use Rattle.sessions.specs.Exchanges.{agreed}
 use Rattle.sessions.proofs.SetUps.{verdict_none, run_carried}
 use Rattle.sessions.proofs.ends.end.run_through.Goals as goal
 
 pub returns : goal.returns
 returns g c =
-    let u = set_up_with c.args.agreement.key.now c.args.agreement.prefix.now c.args.agreement.at (g.R.Route.tally c.args.engine.now.route) in
+    let u = agreed c.args.agreement (g.R.Route.tally c.args.engine.now.route) in
     let keyed = c.in_ok-set_key.ensures in
     let opened = c.in_ok-session.ensures in (
       verdict_none u (g.met.R.Route.capped c.args.engine.now.route) keyed.0 opened.0,
