@@ -13,6 +13,7 @@ use Rattle.sessions.specs.Histories.{Held, Promised, History, none, then, SetUp,
 use Rattle.sessions.specs.Places.{Ran}
 use Rattle.sessions.specs.Reading.{key_or_none, held_by, numbers_given, covering, open_verdict}
 use Rattle.sessions.specs.declared.session.Session.{Session}
+use Rattle.sessions.specs.declared.used.Used.{Used}
 use Rattle.sessions.proofs.SetUps.{allowed_by}
 use Rattle.sessions.proofs.Steps.{held_path, taken_is_ctr}
 use Rattle.embed.specs.Covers.{answer_by, count_by, ruled_cover, cover_answer, refused_tally, ruled_tally, one_cover, RunLeft, Covered}
@@ -49,7 +50,7 @@ not_opened u run e tally within key-none refused-by told =
 
 -- ---- a set-up that is taken
 
-module _ (u : SetUp) (run run' : List ℕ) (r : Result (ℕ × ℕ) Refusal) (h' : Held) (yes_taken : set_up_verdict u ≡ None) (promise : Promised (opened u) (covering run r run') h') where
+module _ (u : SetUp) (run run' : List ℕ) (r : Result Used Refusal) (h' : Held) (yes_taken : set_up_verdict u ≡ None) (promise : Promised (opened u) (covering run r run') h') where
   says : numbers_given r ≡ ruled_cover u (length run)
   says = promise.answered
 
@@ -83,7 +84,7 @@ module _ (u : SetUp) (run run' : List ℕ) (r : Result (ℕ × ℕ) Refusal) (h'
       }
 
 -- The same from what a session and an engine hold.
-pub covered_by : {R : Type 0} (tally : R → ℕ) (u : SetUp) (e e' : Engine R) (s s' : Session) (run run' : List ℕ) (r : Result (ℕ × ℕ) Refusal) → set_up_verdict u ≡ None → engine_key e ≡ Some u.key → tally e.route ≡ u.starting + key_cost (length u.key) → s.prefix ≡ u.prefix → s.next ≡ u.opening → Promised (held_by tally e s) (covering run r run') (held_by tally e' s') → Covered u run (numbers_given r) (tally e'.route) run'
+pub covered_by : {R : Type 0} (tally : R → ℕ) (u : SetUp) (e e' : Engine R) (s s' : Session) (run run' : List ℕ) (r : Result Used Refusal) → set_up_verdict u ≡ None → engine_key e ≡ Some u.key → tally e.route ≡ u.starting + key_cost (length u.key) → s.prefix ≡ u.prefix → s.next ≡ u.opening → Promised (held_by tally e s) (covering run r run') (held_by tally e' s') → Covered u run (numbers_given r) (tally e'.route) run'
 covered_by tally u e e' s s' run run' r yes_taken key-is tally-is prefix-is next-is promise =
     covered_once u run run' r (held_by tally e' s') yes_taken (subst (λ h. Promised h (covering run r run') (held_by tally e' s')) start promise)
   where

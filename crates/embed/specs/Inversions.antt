@@ -1,8 +1,10 @@
 -- Inverting sixteen bytes on a route with a starting tally. Assumes nothing.
-use Rattle.std.specs.Prelude.{◌≡◌, ℕ, ◌+◌, ◌-◌, cond, List, length, Some, None, Option, ◌==◌, nat_le, nat_lt}
+use Rattle.std.specs.Prelude.{◌≡◌, ℕ, ◌+◌, ◌-◌, cond, List, length, Some, None, Option, Result, MatchResult, ◌==◌, nat_le, nat_lt}
 use Rattle.routes.specs.Inverting.{AllInvert}
+use Rattle.routes.specs.Refusals.{numbers}
 use Rattle.routes.specs.Routes.{cap}
 use Rattle.routes.specs.declared.name.RouteName.{RouteName}
+use Rattle.routes.specs.declared.refusal.Refusal.{Refusal}
 use Rattle.sessions.specs.Calls.{gives_both, refused}
 use Rattle.embed.specs.Replies.{left_by, unknown_route}
 use Rattle.embed.specs.declared.reply.Reply.{Reply}
@@ -27,6 +29,11 @@ BytesBy (Some r) before after = after ≡ before
 
 pub record InvertReplied (start : ℕ) (before : List ℕ) (reply : Reply) (after : List ℕ) : Type 0 where
   pub replied : reply ≡ reply_by (invert_verdict (length before) start) start
+  pub left : BytesBy (invert_verdict (length before) start) before after
+
+-- The tally after one inversion, or why there was none; the bytes are left by the same verdict.
+pub record Inverted (start : ℕ) (before : List ℕ) (r : Result ℕ Refusal) (after : List ℕ) : Type 0 where
+  pub told : MatchResult r (λ tally. (invert_verdict (length before) start ≡ None) × (tally ≡ start + 1)) (λ e. invert_verdict (length before) start ≡ Some (numbers e))
   pub left : BytesBy (invert_verdict (length before) start) before after
 
 -- On the route that a number names; where it names none, nothing is altered.

@@ -1,33 +1,14 @@
 //! The exported call that covers a run.
 ghost use Rattle.std.specs.Prelude.{◌≡◌, Some};
 ghost use Rattle.sessions.specs.Exchanges.{set_up_with};
-ghost use Rattle.embed.specs.Covers.{CoverReplied, CoverAnswered};
+ghost use Rattle.embed.specs.Covers.{CoverAnswered};
 ghost use Rattle.embed.specs.Numbered.{route_at};
 
-use crate::cover::cover_on;
+use crate::cover::Cover;
+use crate::on_route::on_named;
 use crate::reply::Reply;
 use crate::route_number::route_numbered;
-use routes::{ByBitTower, ByNibblePair, Power, RouteName, Split, Table};
-
-/// Covers a run on the route of a name. The name is looked at once, and not at every block.
-fn cover_named(
-    name: RouteName,
-    key: &[u8],
-    prefix: &[u8],
-    number: u64,
-    start: u64,
-    run: &mut [u8],
-) -> Reply
-    ensures { CoverReplied (set_up_with key.now prefix.now (Some number) start) run.old result run.new }
-{
-    match name {
-        RouteName::Power => cover_on::<Power>((), key, prefix, number, start, run),
-        RouteName::Split => cover_on::<Split>((), key, prefix, number, start, run),
-        RouteName::Table => cover_on::<Table>((), key, prefix, number, start, run),
-        RouteName::NibblePair => cover_on::<ByNibblePair>((), key, prefix, number, start, run),
-        RouteName::BitTower => cover_on::<ByBitTower>((), key, prefix, number, start, run),
-    }
-}
+use sessions::Agreement;
 
 /// Covers or uncovers a run in place on the route of a number, in a session that opens at a counter number, and gives the status that it leaves in
 /// the reply. Refused, with the run as it was: 255 with the route's number where it names none; then 9; 1, 6; 7, 8; 4, 5, 6.
@@ -44,8 +25,14 @@ pub extern "C" fn janvlozer_cover(
     ensures answered { CoverAnswered (route_at route) route (set_up_with key.now prefix.now (Some number) start) run.old reply.new run.new }
     ensures status { result ≡ reply.new.status }
 {
+    let agreement = Agreement {
+        key,
+        prefix,
+        at: Some(number),
+        start,
+    };
     let left = match route_numbered(route) {
-        Some(name) => cover_named(name, key, prefix, number, start, run),
+        Some(name) => on_named(name, Cover { agreement }, run),
         None => Reply::unknown_route(route, start),
     };
     *reply = left;

@@ -1,40 +1,43 @@
 //! Inverting sixteen bytes on a route.
-ghost use Rattle.std.specs.Prelude.{◌≡◌, ◌≤◌, Some, None, MatchResult};
-ghost use Rattle.routes.specs.Refusals.{numbers};
-ghost use Rattle.routes.specs.Routes.{cap};
-ghost use Rattle.embed.specs.Inversions.{block_verdict, InvertReplied};
+ghost use Rattle.embed.specs.Inversions.{Inverted, InvertReplied};
 
+use crate::on_route::OnRoute;
 use crate::reply::Reply;
 use routes::{CAP, Refusal, Route};
+use sessions::Used;
 
-/// Whether so many bytes can be inverted at a tally.
-fn admit(length: usize, tally: u64) -> Result<(), Refusal>
-    requires { tally ≤ cap }
-    ensures { MatchResult result (λ _. block_verdict length tally ≡ None) (λ e. block_verdict length tally ≡ Some (numbers e)) }
+/// An inversion uses no counter numbers.
+const NO_NUMBERS: Used = Used { first: 0, count: 0 };
+
+/// Inverts sixteen bytes on a route with a starting tally, and gives the tally after that.
+fn invert_on<R: Route<Choice = ()>>(start: u64, bytes: &mut [u8]) -> Result<u64, Refusal>
+    ensures { Inverted start bytes.old result bytes.new }
 {
-    if length != 16 {
-        return Err(Refusal::BlockLength(length as u64));
-    }
-    if tally == CAP {
+    let mut route = R::new((), start)?;
+    let length = bytes.len() as u64;
+    let Some(block) = bytes.as_mut_array() else {
+        return Err(Refusal::BlockLength(length));
+    };
+    if start == CAP {
         return Err(Refusal::Inversions(0));
     }
-    Ok(())
+    route.invert(block);
+    Ok(route.tally())
 }
 
-/// Makes a route with a starting tally and inverts sixteen bytes on it.
-pub(crate) fn invert_on<R: Route>(choice: R::Choice, start: u64, bytes: &mut [u8]) -> Reply
-    ensures { InvertReplied start bytes.old result bytes.new }
-{
-    let mut route = match R::new(choice, start) {
-        Ok(route) => route,
-        Err(refusal) => return Reply::new(Err(refusal), start),
-    };
-    if let Err(refusal) = admit(bytes.len(), start) {
-        return Reply::new(Err(refusal), start);
+/// Inverting sixteen bytes from a starting tally on.
+#[derive(Clone, Copy)]
+pub(crate) struct Invert {
+    pub(crate) start: u64,
+}
+
+impl OnRoute for Invert {
+    ghost replied = { λ w before reply after. InvertReplied w.start before reply after };
+
+    fn on<R: Route<Choice = ()>>(self, bytes: &mut [u8]) -> Reply {
+        match invert_on::<R>(self.start, bytes) {
+            Ok(tally) => Reply::new(Ok(NO_NUMBERS), tally),
+            Err(refusal) => Reply::new(Err(refusal), self.start),
+        }
     }
-    let mut block = [0; 16];
-    block.copy_from_slice(bytes);
-    route.invert(&mut block);
-    bytes.copy_from_slice(&block);
-    Reply::new(Ok((0, 0)), route.tally())
 }

@@ -7,6 +7,7 @@ mod cover;
 mod cover_call;
 mod invert;
 mod invert_call;
+mod on_route;
 mod reply;
 mod route_number;
 

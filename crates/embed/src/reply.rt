@@ -1,9 +1,11 @@
 //! What a call leaves for its caller.
 ghost use Rattle.std.specs.Prelude.{◌≡◌};
+ghost use Rattle.sessions.specs.Calls.{refused};
 ghost use Rattle.sessions.specs.Reading.{numbers_given};
 ghost use Rattle.embed.specs.Replies.{left_by, unknown_route};
 
 use routes::Refusal;
+use sessions::Used;
 
 /// What a call leaves for its caller, laid out as C does. What does not apply is 0.
 #[repr(C)]
@@ -25,25 +27,19 @@ pub struct Reply {
 const UNKNOWN_ROUTE: u64 = 255;
 
 impl Reply {
-    /// What is left of a call that gave two numbers or was refused, at a tally.
-    pub(crate) fn new(given: Result<(u64, u64), Refusal>, tally: u64) -> Reply
+    /// What is left of a call that used counter numbers or was refused, at a tally.
+    pub(crate) fn new(given: Result<Used, Refusal>, tally: u64) -> Reply
         ensures { result ≡ left_by (numbers_given given) tally }
     {
         match given {
-            Ok((first, count)) => Reply {
+            Ok(Used { first, count }) => Reply {
                 status: 0,
                 value: 0,
                 first,
                 count,
                 tally,
             },
-            Err(refusal) => Reply {
-                status: refusal.number(),
-                value: refusal.value(),
-                first: 0,
-                count: 0,
-                tally,
-            },
+            Err(refusal) => Reply::refused(refusal.number(), refusal.value(), tally),
         }
     }
 
@@ -51,9 +47,16 @@ impl Reply {
     pub(crate) fn unknown_route(number: u32, tally: u64) -> Reply
         ensures { result ≡ unknown_route number tally }
     {
+        Reply::refused(UNKNOWN_ROUTE, u64::from(number), tally)
+    }
+
+    /// What is left of a refusal by its two numbers, at a tally.
+    fn refused(status: u64, value: u64, tally: u64) -> Reply
+        ensures { result ≡ left_by (refused status value) tally }
+    {
         Reply {
-            status: UNKNOWN_ROUTE,
-            value: u64::from(number),
+            status,
+            value,
             first: 0,
             count: 0,
             tally,

@@ -1,7 +1,7 @@
-use Rattle.std.proofs.Common.{Some, sym, ap, ◌∙◌, subst}
+use Rattle.std.proofs.Common.{sym, ap, ◌∙◌, subst}
 use Rattle.std.proofs.lemmas.Result.{err_from_is_err_and}
 use Rattle.sessions.specs.Calls.{refusal}
-use Rattle.sessions.specs.Exchanges.{set_up_with}
+use Rattle.sessions.specs.Exchanges.{agreed}
 use Rattle.sessions.specs.Reading.{numbers_given}
 use Rattle.sessions.proofs.SetUps.{verdict_none}
 use Rattle.embed.specs.Covers.{Covered}
@@ -11,7 +11,7 @@ use Rattle.embed.proofs.cover.cover_through.Goals as goal
 pub returns-in_err-session : goal.returns-in_err-session
 returns-in_err-session g c =
     let tally = g.R.Route.tally in
-    let u = set_up_with c.args.key.now c.args.prefix.now (Some c.args.number) (tally c.args.engine.now.route) in
+    let u = agreed c.args.agreement (tally c.args.engine.now.route) in
     let keyed = c.in_ok-set_key.ensures in
     let p = err_from_is_err_and c.from_residual-in_err-session.result c.from_residual-in_err-session.ensures.1 in
     let given = ap numbers_given p.1 ∙ ap refusal p.2 in
@@ -21,7 +21,7 @@ returns-in_err-session g c =
 pub returns : goal.returns
 returns g c =
     let tally = g.R.Route.tally in
-    let u = set_up_with c.args.key.now c.args.prefix.now (Some c.args.number) (tally c.args.engine.now.route) in
+    let u = agreed c.args.agreement (tally c.args.engine.now.route) in
     let keyed = c.in_ok-set_key.ensures in
     let opened = c.in_ok-session.ensures in
     let yes_taken = verdict_none u (g.met.R.Route.capped c.args.engine.now.route) keyed.0 opened.0 in
