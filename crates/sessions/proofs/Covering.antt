@@ -1,7 +1,6 @@
 -- Covering step by step: bytes by their places, pieces that are written in place, and runs that are admitted. Assumes nothing.
-use Rattle.std.proofs.Common.{◌≡◌, ℕ, zero, suc, ◌+◌, ◌-◌, ◌*◌, ◌<◌, ◌≤◌, min, true, List, [], ◌∷◌, ◌++◌, length, get_or, take, drop, is_ok, Some, None, Ok, Err, Option, Result, sym, refl, ap, ◌∙◌, subst, ⊎_elim, not-suc-le-zero, mul-le-mul_left, mul-zero, mul-suc, add-one, arith, length-append, length-drop, length-take-le, take_all, drop-cons, drop-drop, take_at, ext_get_or, drop_at, below_more}
+use Rattle.std.proofs.Common.{◌≡◌, ℕ, zero, suc, ◌+◌, ◌-◌, ◌*◌, ◌<◌, ◌≤◌, min, true, List, [], ◌∷◌, ◌++◌, length, get_or, take, drop, is_ok, Some, None, Ok, Err, Option, Result, sym, refl, ap, ◌∙◌, subst, ⊎_elim, not-suc-le-zero, mul-le-mul_left, mul-zero, mul-suc, add-one, arith, length-append, length-drop, length-take-le, take_all, drop-drop, take_at, ext_get_or, drop_at, below_more}
 use lib.Bits.{bit_xor}
-use lib.Seq.{drop-length}
 use borrow.Rule.Slice.PartMut.{put_mid}
 use Rattle.std.specs.Int.{div_ceil}
 use Rattle.std.proofs.lemmas.List.{nil_from_length, take-append-drop, append-nil}
@@ -24,16 +23,6 @@ use Rattle.sessions.specs.Reading.{key_or_none}
 use Rattle.sessions.proofs.Pieces.{length-plus, piece_of_front}
 
 -- ---- bytes by their places
-
--- The n bytes from place i on.
-unfoldable pub places_from : ℕ → ℕ → List ℕ → List ℕ
-places_from zero i xs = []
-places_from (suc n) i xs = get_or xs i 0 ∷ places_from n (suc i) xs
-
-pub places_are : (n i : ℕ) (xs : List ℕ) → length xs ≡ i + n → places_from n i xs ≡ drop i xs
-unfolding places_from
-places_are zero i xs e = let l : i ≡ length xs = omega arith in sym (ap (λ j. drop j xs) l ∙ drop-length xs)
-places_are (suc n) i xs e = ap (λ ys. get_or xs i 0 ∷ ys) (places_are n (suc i) xs (omega arith)) ∙ sym (drop-cons xs i 0 (omega arith))
 
 pub get_or-plus : (xs ys : List ℕ) (k : ℕ) → k < length xs → k < length ys → get_or (plus xs ys) k 0 ≡ bit_xor (get_or xs k 0) (get_or ys k 0)
 unfolding plus

@@ -11,9 +11,10 @@ use routes::Route;
 fn counter_block(prefix: &[u8; 12], number: u32) -> [u8; 16]
     ensures { result ≡ counter_block prefix.now number }
 {
-    let [a, b, c, d, e, f, g, h, i, j, k, l] = *prefix;
-    let [w, x, y, z] = number.to_be_bytes();
-    [a, b, c, d, e, f, g, h, i, j, k, l, w, x, y, z]
+    let mut block = [0; 16];
+    block[..12].copy_from_slice(prefix);
+    block[12..].copy_from_slice(&number.to_be_bytes());
+    block
 }
 
 /// Adds the first bytes of the pad to a piece of at most sixteen.
@@ -58,8 +59,8 @@ pub(crate) fn cover_run<R: Route>(
     ensures spent { Spent R.Route.tally engine.old engine.new (blocks (length run.old)) }
     ensures added { Added (key_of engine.old) prefix.now first (blocks (length run.old)) run.old run.new }
 {
-    let count = run.len().div_ceil(16);
-    for p in 0..count {
+    // `chunks_mut` and `as_chunks_mut` do not say what the run ends as, so each piece is cut out by its place.
+    for p in 0..run.len().div_ceil(16) {
         let at = 16 * p;
         let end = run.len().min(at + 16);
         cover_piece(engine, prefix, first + p as u64, &mut run[at..end], pad);

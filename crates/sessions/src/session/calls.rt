@@ -12,15 +12,13 @@ impl Session {
     pub fn open(prefix: &[u8], at: Option<u64>) -> Result<Session, Refusal>
         ensures { Opened prefix.now at result }
     {
-        if prefix.len() != 12 {
+        let Ok(bytes) = <[u8; 12]>::try_from(prefix) else {
             return Err(Refusal::PrefixLength(prefix.len() as u64));
-        }
+        };
         let next = at.unwrap_or(0);
         if next > COUNTERS {
             return Err(Refusal::OpeningNumber(next));
         }
-        let mut bytes = [0; 12];
-        bytes.copy_from_slice(prefix);
         Ok(Session {
             prefix: bytes,
             next,
