@@ -1,24 +1,19 @@
--- Covering step by step: bytes by their places, pieces that are written in place, and runs that are admitted. Assumes nothing.
-use Rattle.std.proofs.Common.{◌≡◌, ℕ, zero, suc, ◌+◌, ◌-◌, ◌*◌, ◌<◌, ◌≤◌, min, true, List, [], ◌∷◌, ◌++◌, length, get_or, take, drop, is_ok, Some, None, Ok, Err, Option, Result, sym, refl, ap, ◌∙◌, subst, ⊎_elim, not-suc-le-zero, mul-le-mul_left, mul-zero, mul-suc, add-one, arith, length-append, length-drop, length-take-le, take_all, drop-drop, take_at, ext_get_or, drop_at, below_more}
+-- Covering step by step: bytes by their places, one block, and pieces that are written in place. Assumes nothing.
+use Rattle.std.proofs.Common.{◌≡◌, ℕ, zero, suc, ◌+◌, ◌-◌, ◌*◌, ◌<◌, ◌≤◌, min, List, [], ◌∷◌, ◌++◌, length, get_or, take, drop, Some, None, Ok, Option, Result, sym, refl, ap, ◌∙◌, ⊎_elim, not-suc-le-zero, mul-suc, add-one, arith, length-drop, length-take-le, take_all, drop-drop, take_at, ext_get_or, drop_at, below_more}
 use lib.Bits.{bit_xor}
 use borrow.Rule.Slice.PartMut.{put_mid}
-use Rattle.std.specs.Int.{div_ceil}
 use Rattle.std.proofs.lemmas.List.{nil_from_length, take-append-drop, append-nil}
 use Rattle.std.proofs.lemmas.Slice.{drop-put_mid}
 use Rattle.std.proofs.lemmas.Result.{MatchResult-at_ok}
-use Rattle.std.proofs.lemmas.Bool.{ne_eqb, le-ltb, cases_lt}
-use Rattle.std.proofs.lemmas.Bool.Decides.{nat_tests}
-use Rattle.cipher.specs.Engines.{Headroom, engine_key, block_verdict, Turned, TurnedBy}
+use Rattle.std.proofs.lemmas.Bool.{cases_lt}
+use Rattle.cipher.specs.Engines.{engine_key, Turned, TurnedBy}
 use Rattle.cipher.specs.Fips197.{aes}
 use Rattle.cipher.specs.declared.engine.Engine.{Engine}
-use Rattle.routes.specs.Refusals.{numbers}
 use Rattle.routes.specs.declared.refusal.Refusal.{Refusal}
-use Rattle.cipher.specs.Keys.{key_length, key_rounds}
-use Rattle.routes.specs.Routes.{cap}
-use Rattle.sessions.specs.Calls.{covers, gives_both, ruled, remains}
-use Rattle.sessions.specs.Counters.{counters, blocks, counter_block, four_bytes, piece, plus}
-use Rattle.sessions.specs.Covering.{Admits, Ready, Spent, Added, key_of}
-use Rattle.sessions.specs.Histories.{Held, encrypted}
+use Rattle.cipher.specs.Keys.{key_rounds}
+use Rattle.sessions.specs.Counters.{counter_block, piece, plus}
+use Rattle.sessions.specs.Covering.{Spent, Added, key_of}
+use Rattle.sessions.specs.Histories.{encrypted}
 use Rattle.sessions.specs.Reading.{key_or_none}
 use Rattle.sessions.proofs.Pieces.{length-plus, piece_of_front}
 
@@ -36,57 +31,9 @@ pub plus_by_places : (xs ys zs : List ℕ) → length zs ≡ length xs → lengt
 plus_by_places xs ys zs e l same =
     ext_get_or 0 zs (plus xs ys) (omega (arith, length-plus xs ys)) (λ k h. same k (omega arith) ∙ sym (get_or-plus xs ys k (omega arith) (omega arith)))
 
--- ---- runs that are admitted
-
--- What an engine with a key tells of its headroom.
-pub told : (o : Option (List ℕ)) (tally rounds left : ℕ) → Headroom o tally (Some (rounds, left)) → (key_length (length (key_or_none o)) ≡ true) × (rounds ≡ key_rounds (length (key_or_none o))) × (left ≡ cap - tally)
-told None tally rounds left h = let no_way : ⊥ = grind arith in absurd no_way
-told (Some key) tally rounds left h = (h.0, grind arith, grind arith)
-
--- A sixteenth of a run's length, rounded up, is how many blocks it takes.
-pub blocks_are : (n k : ℕ) → k ≡ div_ceil n 16 → k ≡ blocks n
-blocks_are n k e = omega arith
-
--- What is admitted when all tests are passed.
-pub admits_run : (h : Held) (n k rounds left : ℕ) → key_length (length h.key) ≡ true → rounds ≡ key_rounds (length h.key) → left ≡ cap - h.tally → h.tally ≤ cap → h.next ≤ counters → n ≤ 65536 → k ≡ div_ceil n 16 → k ≤ counters - h.next → rounds * k ≤ left → Admits h n k
-admits_run h n k rounds left keyed is-rounds is-left capped within short counts room paid =
-    record { answered = rule ∙ ap (gives_both h.next) (sym count); keyed = keyed; count = count; room = omega arith; paid = enough }
-  where
-    count : k ≡ blocks n
-    count = blocks_are n k counts
-
-    enough : h.tally + key_rounds (length h.key) * k ≤ cap
-    enough = omega (arith, ap (λ r. r * k) is-rounds)
-
-    enough_for_blocks : h.tally + key_rounds (length h.key) * blocks n ≤ cap
-    enough_for_blocks = subst (λ m. h.tally + key_rounds (length h.key) * m ≤ cap) count enough
-
-    key_set : length h.key ≡ 0 → ⊥
-    key_set e = grind (arith, nat_tests)
-
-    rule : ruled (length h.key) h.next h.tally (covers n) ≡ gives_both h.next (blocks n)
-    rule = rw (ne_eqb (length h.key) 0 key_set, le-ltb 65536 n short, le-ltb (remains h.next) (blocks n) (omega arith), le-ltb cap (h.tally + key_rounds (length h.key) * blocks n) enough_for_blocks)
-
 -- ---- one block
 
-pub length-counter_block : (prefix : List ℕ) (j : ℕ) → length prefix ≡ 12 → length (counter_block prefix j) ≡ 16
-unfolding counter_block four_bytes
-length-counter_block prefix j e = length-append prefix (four_bytes j) ∙ ap (λ n. n + 4) e
-
--- An engine that is ready takes a block.
-ready_verdict : (o : Option (List ℕ)) (n t : ℕ) → key_length (length (key_or_none o)) ≡ true → t + key_rounds (length (key_or_none o)) * 1 ≤ cap → n ≡ 16 → block_verdict o n t ≡ None
-ready_verdict None n t keyed paid e = let no_way : ⊥ = grind arith in absurd no_way
-ready_verdict (Some key) n t keyed paid e = grind (arith, nat_tests)
-
 module _ {R : Type 0} (tally : R → ℕ) (before after : Engine R) (block block' : List ℕ) where
-  pub ready_is_ok : {X : Type 0} (r : Result X Refusal) → Ready tally before 1 → length block ≡ 16 → Turned tally before after aes block block' r → is_ok r ≡ true
-  ready_is_ok (Ok x) ready e turned = refl
-  ready_is_ok (Err d) ready e turned =
-      let taken : block_verdict (engine_key before) (length block) (tally before.route) ≡ None = ready_verdict (engine_key before) (length block) _ ready.keyed ready.paid e in
-      let refused : Some (numbers d) ≡ None = sym turned.0 ∙ taken in
-      let no_way : ⊥ = grind arith in
-      absurd no_way
-
   turned_by : (o : Option (List ℕ)) → TurnedBy tally before after aes o block block' → (block' ≡ encrypted (key_or_none o) block) × (key_of after ≡ key_or_none o) × (tally after.route ≡ tally before.route + key_rounds (length (key_or_none o)))
   unfolding encrypted
   turned_by None h = absurd h
@@ -158,9 +105,6 @@ rest_from xs ys p e =
 -- ---- the engine over several blocks
 
 module _ {R : Type 0} (tally : R → ℕ) where
-  pub spent_none : (e : Engine R) → Spent tally e e 0
-  spent_none e = record { same_key = refl; counts = omega (arith, mul-zero (key_rounds (length (key_of e)))) }
-
   module _ {e e' : Engine R} {p : ℕ} (spent : Spent tally e e' p) where
     abbrev rounds : ℕ
     rounds = key_rounds (length (key_of e))
@@ -173,11 +117,4 @@ module _ {R : Type 0} (tally : R → ℕ) where
         record {
           same_key = one.same_key ∙ spent.same_key;
           counts = rw add-one (omega (arith, one.counts, spent.counts, same_rounds, mul-suc rounds p));
-        }
-
-    pub still_ready : {k : ℕ} → Ready tally e k → p < k → Ready tally e' 1
-    still_ready {k = k} ready h =
-        record {
-          keyed = ap (λ key. key_length (length key)) spent.same_key ∙ ready.keyed;
-          paid = omega (arith, spent.counts, ready.paid, same_rounds, mul-suc rounds p, mul-le-mul_left rounds h);
         }

@@ -10,28 +10,20 @@ use Rattle.routes.specs.declared.refusal.Refusal.{Refusal}
 use Rattle.sessions.specs.Calls.{Answer, cover, skip, covers}
 use Rattle.sessions.specs.Exchanges.{call_in, given_in, answer_in, shape_in, run_in, event_in, events_in, calls_left, answers_given, CarriedOne, Carried}
 use Rattle.sessions.specs.Histories.{Held, Event, Promised, History, none, then}
-use Rattle.sessions.specs.Reading.{number_given, numbers_given}
+use Rattle.sessions.specs.Reading.{answer_from}
 use Rattle.sessions.specs.contracts.call.SessionCallClone.TheImpl.{by_variants}
 use Rattle.sessions.specs.declared.call.Answered.{Answered}
 use Rattle.sessions.specs.declared.call.SessionCall.{SessionCall}
 use Rattle.sessions.specs.declared.call.SessionCall.TheVariants.{Cover, Skip, Remaining}
 use Rattle.sessions.specs.declared.call.Given.{Given}
-use Rattle.sessions.specs.declared.call.Given.TheVariants.{Left}
-use Rattle.sessions.specs.declared.call.Given.TheVariants.{Used as used}
-use Rattle.sessions.specs.declared.used.Used.{Used}
 
 -- ---- one call
 
 -- What a call gave, noted as an answer.
-pub answered_left : (r : Result ℕ Refusal) (a : Result Given Refusal) → MatchResult r (λ x. IsOkAnd a (λ y. y ≡ Left x)) (λ e. a ≡ Err e) → answer_in a ≡ number_given r
-answered_left (Ok x) (Ok y) h = ap given_in h
-answered_left (Ok x) (Err e) h = absurd h
-answered_left (Err d) a h = ap answer_in h
-
-pub answered_used : (r : Result Used Refusal) (a : Result Given Refusal) → MatchResult r (λ x. IsOkAnd a (λ y. y ≡ used x)) (λ e. a ≡ Err e) → answer_in a ≡ numbers_given r
-answered_used (Ok x) (Ok y) h = ap given_in h
-answered_used (Ok x) (Err e) h = absurd h
-answered_used (Err d) a h = ap answer_in h
+pub answered : {X : Type 0} (note : X → Given) (r : Result X Refusal) (a : Result Given Refusal) → MatchResult r (λ x. IsOkAnd a (λ y. y ≡ note x)) (λ e. a ≡ Err e) → answer_in a ≡ answer_from (λ x. given_in (note x)) r
+answered note (Ok x) (Ok y) h = ap given_in h
+answered note (Ok x) (Err e) h = absurd h
+answered note (Err d) a h = ap answer_in h
 
 module _ {h h' : Held} {c : SessionCall} (a : Result Given Refusal) {given : Answer} (noted : answer_in a ≡ given) where
   -- A run was covered in place.

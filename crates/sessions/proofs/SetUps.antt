@@ -1,26 +1,23 @@
 -- Set-ups that are taken, the ends that run from them, and what two ends make of one list. Assumes nothing.
-use Rattle.std.proofs.Common.{◌≡◌, ℕ, ◌+◌, ◌<◌, ◌≤◌, true, false, leb, List, [], ◌∷◌, map, length, Some, None, Err, vec_items, Option, Result, sym, refl, ap, ◌∙◌, subst, ap₂, ⊎_elim, arith}
+use Rattle.std.proofs.Common.{◌≡◌, ℕ, ◌+◌, ◌≤◌, true, false, leb, List, [], ◌∷◌, map, length, Some, None, vec_items, Option, Result, sym, refl, ap, ◌∙◌, subst, ap₂, ⊎_elim, arith}
 use lib.ListN.{length-map}
-use Rattle.std.proofs.lemmas.Bool.{le-leb, lt-leb, cond-true, cond-false, cases_Bool}
+use Rattle.std.proofs.lemmas.Bool.{le-leb, cond-true, cond-false, cases_Bool}
 use Rattle.std.proofs.lemmas.Bool.Decides.{nat_tests}
 use Rattle.cipher.specs.Engines.{engine_key}
 use Rattle.cipher.specs.Keys.{key_cost, key_verdict}
 use Rattle.cipher.specs.declared.engine.Engine.{Engine}
 use Rattle.routes.specs.Routes.{cap}
-use Rattle.routes.specs.Refusals.{numbers}
 use Rattle.routes.specs.declared.refusal.Refusal.{Refusal}
 use Rattle.sessions.specs.Counters.{counters}
 use Rattle.sessions.specs.Calls.{shape, ruled_all}
-use Rattle.sessions.specs.Exchanges.{call_in, answer_in, shape_in, run_in, calls_left, answers_given, events_in, first_of, set_up_verdict, held_at_end, account_of, Carried, EndRan, BothRan, Failed, Exchanged}
+use Rattle.sessions.specs.Exchanges.{call_in, answer_in, shape_in, run_in, calls_left, answers_given, events_in, first_of, set_up_verdict, held_at_end, account_of, Carried, EndRan, BothRan}
 use Rattle.sessions.specs.Histories.{SetUp, Allowed, opened, answers, shapes, runs_before, runs_after}
 use Rattle.sessions.specs.Laws.{Fed, fed_none, fed_then, Uncovers}
 use Rattle.sessions.specs.Places.{Ran}
 use Rattle.sessions.specs.Reading.{key_or_none, open_verdict, held_by}
 use Rattle.sessions.specs.declared.call.SessionCall.{SessionCall}
 use Rattle.sessions.specs.declared.call.Given.{Given}
-use Rattle.sessions.specs.declared.ends.BothEnds.{BothEnds}
 use Rattle.sessions.specs.declared.ends.end.End.{End}
-use Rattle.sessions.specs.declared.ends.error.ExchangeError.{ExchangeError}
 use Rattle.sessions.specs.declared.session.Session.{Session}
 use Rattle.sessions.proofs.Exchanges.{same_lengths}
 use Rattle.sessions.proofs.Histories.{sums, answers_are_the_rules, the_other_end_uncovers, the_tally_is_the_sum}
@@ -40,11 +37,6 @@ module _ (u : SetUp) where
   pub verdict_none : u.starting ≤ cap → key_says ≡ None → open_says ≡ None → set_up_verdict u ≡ None
   verdict_none within key-none Open-none =
       cond-true (leb u.starting cap) (first_of key_says open_says) (Some (9, u.starting)) (le-leb u.starting cap within) ∙ ap₂ first_of key-none Open-none
-
-  -- One whose starting tally is above the cap is refused for that.
-  pub start_refused : (e : Refusal) → (cap < u.starting) × (◌≡◌ {A = ℕ × ℕ} (numbers e) (9, u.starting)) → set_up_verdict u ≡ Some (numbers e)
-  start_refused e h =
-      cond-false (leb u.starting cap) (first_of key_says open_says) (Some (9, u.starting)) (lt-leb u.starting cap h.0) ∙ ap Some (sym h.1)
 
   neither : (a b : Option (ℕ × ℕ)) → first_of a b ≡ None → (a ≡ None) × (b ≡ None)
   neither None b e = (refl, e)
@@ -89,15 +81,6 @@ run_carried tally u e e' s s' closed {cs = cs} {cs' = cs'} {as' = as'} key-is ta
     finish : held_by tally e' s' ≡ held_at_end u closed (tally e'.route)
     finish =
         held_path (held_by tally e' s') (held_at_end u closed (tally e'.route)) (sums from_start.history).same_key (sums from_start.history).same_prefix (sym closed_is) refl
-
-pub end_ran : (u : SetUp) (cs : List SessionCall) (end : End) (tally : ℕ) → end.tally ≡ tally → set_up_verdict u ≡ None → Carried (opened u) cs (answers_given (vec_items end.answered)) (calls_left (vec_items end.answered)) (held_at_end u end.closed tally) → EndRan u cs end
-end_ran u cs end tally told none carried =
-    let all = subst (λ n. Carried (opened u) cs (answers_given (vec_items end.answered)) (calls_left (vec_items end.answered)) (held_at_end u end.closed n)) (sym told) carried in
-    record {
-      ran = record { allowed = allowed_by u none; history = all.history };
-      all_answered = sym (length-map (vec_items end.answered) (λ a. a.answer)) ∙ all.all_answered;
-      same_shapes = all.same_shapes;
-    }
 
 -- ---- lists of events by their parts
 
@@ -205,7 +188,3 @@ both_ran u cs t g at-t at_g =
 
     back : Uncovers (account_of u cs t) (account_of u (calls_left (vec_items t.answered)) g)
     back = the_other_end_uncovers (account_of u cs t) (account_of u (calls_left (vec_items t.answered)) g) at-t.ran at_g.ran refl fed_calls
-
--- What an exchange that failed returns.
-pub failed_exit : (u : SetUp) (cs : List SessionCall) {r : Result BothEnds ExchangeError} {e : ExchangeError} → r ≡ Err e → Failed u e → Exchanged u cs r
-failed_exit u cs is failed = subst (Exchanged u cs) (sym is) failed

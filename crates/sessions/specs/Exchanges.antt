@@ -1,14 +1,14 @@
 -- Lists of calls as values, what carrying them out comes to, and what two ends make of them. Assumes nothing.
-use Rattle.std.specs.Prelude.{◌≡◌, ℕ, ◌+◌, ◌*◌, cond, List, [], ◌∷◌, map, length, Some, None, Ok, Err, vec_items, Option, Result, MatchResult, nat_le}
+use Rattle.std.specs.Prelude.{◌≡◌, ℕ, ◌+◌, ◌*◌, cond, List, [], ◌∷◌, map, length, Some, None, vec_items, Option, Result, MatchResult, nat_le}
 use Rattle.cipher.specs.Keys.{key_cost, key_rounds, key_verdict}
 use Rattle.routes.specs.Refusals.{numbers}
 use Rattle.routes.specs.Routes.{cap}
 use Rattle.routes.specs.declared.refusal.Refusal.{Refusal}
-use Rattle.sessions.specs.Calls.{Call, Shape, Answer, cover, skip, remaining, gives, gives_both, refusal, shape, run_of, ruled_all}
+use Rattle.sessions.specs.Calls.{Call, Shape, Answer, cover, skip, remaining, gives, gives_both, shape, run_of, ruled_all}
 use Rattle.sessions.specs.Histories.{Held, Event, Promised, History, SetUp, opened, used_all, covered_all}
 use Rattle.sessions.specs.Laws.{Fed}
 use Rattle.sessions.specs.Places.{Account, Ran}
-use Rattle.sessions.specs.Reading.{opening_number, open_verdict}
+use Rattle.sessions.specs.Reading.{answer_from, opening_number, open_verdict}
 use Rattle.sessions.specs.declared.agreement.Agreement.{Agreement}
 use Rattle.sessions.specs.declared.call.Answered.{Answered}
 use Rattle.sessions.specs.declared.call.SessionCall.{SessionCall}
@@ -32,8 +32,7 @@ given_in (Left n) = gives n
 given_in (Used u) = gives_both u.first u.count
 
 abbrev pub answer_in : Result Given Refusal → Answer
-answer_in (Ok given) = given_in given
-answer_in (Err e) = refusal e
+answer_in = answer_from given_in
 
 abbrev pub shape_in : SessionCall → Shape
 shape_in c = shape (call_in c)

@@ -27,14 +27,16 @@ held_by tally e s = held_with (key_or_none (engine_key e)) (tally e.route) s
 
 -- ---- what happened
 
--- The answer in what a call gave.
+-- The answer in what a call gave: a number, or the numbers it used.
+abbrev pub answer_from : {X : Type 0} → (X → Answer) → Result X Refusal → Answer
+answer_from says (Ok x) = says x
+answer_from says (Err e) = refusal e
+
 abbrev pub number_given : Result ℕ Refusal → Answer
-number_given (Ok n) = gives n
-number_given (Err e) = refusal e
+number_given = answer_from gives
 
 abbrev pub numbers_given : Result Used Refusal → Answer
-numbers_given (Ok u) = gives_both u.first u.count
-numbers_given (Err e) = refusal e
+numbers_given = answer_from (λ u. gives_both u.first u.count)
 
 -- A run was covered, n numbers were skipped, or it was asked how many remain.
 abbrev pub covering : List ℕ → Result Used Refusal → List ℕ → Event

@@ -24,6 +24,7 @@ pub struct BothEnds {
 /// Carries a list of calls out at a transmitter, feeds what it left to a gateway, and gives back what both ends have to show. The ends agree on key,
 /// prefix, opening number (0 where none is given) and starting tally; each has a route of its own. Every session is closed and every engine is
 /// retired, also where the set-up is refused and where memory runs short.
+#[tactic(auto, using(crate::proofs::SessionLaws::session_laws))]
 pub fn exchange<A: Route, B: Route>(
     heap: Global,
     transmitter: A::Choice,

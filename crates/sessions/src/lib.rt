@@ -32,6 +32,7 @@ pub use session::{COUNTERS, Session};
 pub use used::Used;
 
 /// The laws of counter sessions hold: of every session, of every two ends, of every chain, over every route.
+#[tactic(auto, using(crate::proofs::SessionLaws::session_laws))]
 pub fn session_laws_hold() -> bool
     ensures always { result ≡ true }
     ensures laws { SessionLaws }

@@ -1,20 +1,9 @@
-use Rattle.std.proofs.Common.{◌≡◌, ◌+◌, ◌-◌, ◌*◌, ◌≤◌, length, take, drop, refl, ap, ◌∙◌, subst, not-suc-le-zero, arith, length-drop, length-take}
-use Rattle.sessions.specs.Counters.{blocks, counter_block, plus}
-use Rattle.sessions.specs.Covering.{key_of, Spent}
+use Rattle.std.proofs.Common.{◌≡◌, ◌+◌, ◌-◌, ◌*◌, ◌≤◌, length, take, drop, ap, ◌∙◌, arith, length-drop, length-take}
+use Rattle.sessions.specs.Counters.{counter_block, plus}
+use Rattle.sessions.specs.Covering.{key_of}
 use Rattle.sessions.specs.Histories.{encrypted}
-use Rattle.sessions.proofs.Covering.{added_more, rest_after, rest_from, spent_none, spent_more, still_ready}
+use Rattle.sessions.proofs.Covering.{added_more, rest_after, rest_from, spent_more}
 use Rattle.sessions.proofs.stream.cover_run.Goals as goal
-
-pub cover_piece-requires : goal.cover_piece-requires
-cover_piece-requires g c =
-    record {
-      ready = still_ready g.R.Route.tally c.loop-p.invariant.0 c.requires.ready (omega arith);
-      below = omega arith;
-      short = simp (length-take, length-drop) (omega arith);
-    }
-
-pub loop-p-init : goal.loop-p-init
-loop-p-init g c = (spent_none g.R.Route.tally c.args.engine.now, λ p h. absurd (not-suc-le-zero h), refl)
 
 pub loop-p-preserved : goal.loop-p-preserved
 loop-p-preserved g c =
@@ -29,11 +18,3 @@ loop-p-preserved g c =
       added_more xs ys p end starts c.min-end.ensures fits c.args.run.now (key_of c.args.engine.now) c.args.prefix.now c.args.first c.loop-p.invariant.1 c.loop-p.invariant.2 here,
       rest_after xs ys p end starts c.min-end.ensures fits ∙ rest_from xs c.args.run.now p c.loop-p.invariant.2,
     )
-
-pub returns : goal.returns
-returns g c =
-    let all : c.loop-p.p ≡ blocks (length c.args.run.now) = omega arith in
-    record {
-      spent = subst (λ k. Spent g.R.Route.tally c.args.engine.now c.loop-p.engine k) all c.loop-p.invariant.0;
-      added = λ p h. c.loop-p.invariant.1 p (omega arith);
-    }
