@@ -1,54 +1,19 @@
--- Covering one run from a set-up: what is answered, counted and left. Assumes nothing.
-use Rattle.std.proofs.Common.{◌≡◌, ℕ, ◌+◌, ◌≤◌, true, false, leb, List, length, Some, None, Option, Result, sym, refl, ap, ◌∙◌, subst, ap₂, arith}
-use Rattle.std.proofs.lemmas.Bool.{le-leb, cond-true}
+-- Covering one run from a set-up that is taken: what is answered, counted and left. Assumes nothing.
+use Rattle.std.proofs.Common.{◌≡◌, ℕ, ◌+◌, List, length, Some, None, Result, sym, ap, ◌∙◌, subst}
 use Rattle.cipher.specs.Engines.{engine_key}
-use Rattle.cipher.specs.Keys.{key_cost, key_verdict}
+use Rattle.cipher.specs.Keys.{key_cost}
 use Rattle.cipher.specs.declared.engine.Engine.{Engine}
-use Rattle.routes.specs.Refusals.{numbers}
-use Rattle.routes.specs.Routes.{cap}
 use Rattle.routes.specs.declared.refusal.Refusal.{Refusal}
-use Rattle.sessions.specs.Calls.{cover, covers, refusal, taken, used, call_cost}
-use Rattle.sessions.specs.Exchanges.{first_of, set_up_verdict}
+use Rattle.sessions.specs.Calls.{cover, covers, taken, used, call_cost}
+use Rattle.sessions.specs.Exchanges.{set_up_verdict}
 use Rattle.sessions.specs.Histories.{Held, Promised, History, none, then, SetUp, opened}
 use Rattle.sessions.specs.Places.{Ran}
-use Rattle.sessions.specs.Reading.{key_or_none, held_by, numbers_given, covering, open_verdict}
+use Rattle.sessions.specs.Reading.{key_or_none, held_by, numbers_given, covering}
 use Rattle.sessions.specs.declared.session.Session.{Session}
 use Rattle.sessions.specs.declared.used.Used.{Used}
 use Rattle.sessions.proofs.SetUps.{allowed_by}
 use Rattle.sessions.proofs.Steps.{held_path, taken_is_ctr}
-use Rattle.embed.specs.Covers.{answer_by, count_by, ruled_cover, cover_answer, refused_tally, ruled_tally, one_cover, RunLeft, Covered}
-
--- ---- a set-up that is refused
-
-module _ (u : SetUp) (run : List ℕ) (r : ℕ × ℕ) (no : set_up_verdict u ≡ Some r) where
-  -- The run is as it was.
-  pub left_as_it_was : RunLeft u run run
-  left_as_it_was =
-      record {
-        ran = λ yes_taken. let both : ◌≡◌ {A = Option (ℕ × ℕ)} (Some r) None = sym no ∙ yes_taken in let no_way : ⊥ = grind arith in absurd no_way;
-        counter_mode = λ t. let both : false ≡ true = sym (ap (λ v. taken (answer_by v (ruled_cover u (length run)))) no) ∙ t in let no_way : ⊥ = grind arith in absurd no_way;
-        kept = λ _. refl;
-      }
-
--- The session is not opened: the key has been set, and is counted.
-pub not_opened : (u : SetUp) (run : List ℕ) (e : Refusal) (tally : ℕ) → u.starting ≤ cap → key_verdict (length u.key) u.starting ≡ None → open_verdict (length u.prefix) u.opening ≡ Some (numbers e) → tally ≡ u.starting + key_cost (length u.key) → Covered u run (refusal e) tally run
-not_opened u run e tally within key-none refused-by told =
-    record {
-      answered = sym (ap (λ v. answer_by v (ruled_cover u (length run))) verdict);
-      counted = told ∙ sym counts ∙ sym (ap (λ v. count_by v (refused_tally u) (ruled_tally u (length run))) verdict);
-      left = left_as_it_was u run (numbers e) verdict;
-    }
-  where
-    fits : leb u.starting cap ≡ true
-    fits = le-leb u.starting cap within
-
-    verdict : set_up_verdict u ≡ Some (numbers e)
-    verdict = cond-true (leb u.starting cap) _ _ fits ∙ ap₂ first_of key-none refused-by
-
-    counts : refused_tally u ≡ u.starting + key_cost (length u.key)
-    counts = cond-true (leb u.starting cap) _ _ fits ∙ ap (λ v. count_by v u.starting (u.starting + key_cost (length u.key))) key-none
-
--- ---- a set-up that is taken
+use Rattle.embed.specs.Covers.{answer_by, count_by, ruled_cover, cover_answer, refused_tally, ruled_tally, one_cover, Covered}
 
 module _ (u : SetUp) (run run' : List ℕ) (r : Result Used Refusal) (h' : Held) (yes_taken : set_up_verdict u ≡ None) (promise : Promised (opened u) (covering run r run') h') where
   says : numbers_given r ≡ ruled_cover u (length run)

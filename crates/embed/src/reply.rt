@@ -11,7 +11,7 @@ use sessions::Used;
 #[repr(C)]
 #[derive(Clone, Copy)]
 pub struct Reply {
-    /// 0 where the call was taken, the number of the refusal where it was refused, 255 where the route's number names no route.
+    /// A number, as C reads it: 0 where the call was taken, the number of the refusal where it was refused, 255 where the route's number names no route.
     pub status: u64,
     /// The refusal's value, or the number that names no route.
     pub value: u64,

@@ -5,7 +5,7 @@ ghost use Rattle.sessions.specs.Exchanges.{call_in, calls_left};
 use crate::call::{Answered, SessionCall};
 use std::alloc::{AllocError, Global};
 
-/// Copies of the calls as one end left them. `try_collect` of the clones gets no proof of what they are.
+/// Copies of the calls as one end left them.
 pub(crate) fn copies_of(heap: Global, answered: &[Answered]) -> Result<Vec<SessionCall>, AllocError>
     ensures { IfOk result (λ v. map call_in v.items ≡ map call_in (calls_left answered.now)) }
 {
