@@ -156,8 +156,10 @@ module _ (v : ℕ) (h : v < 2 ^ 32) where
       (ap (λ x. x.value) (agreeing third third_row (at_additive 16 mixing) third_row_additive third_tested v h))
       (ap (λ x. x.value) (agreeing fourth fourth_row (at_additive 24 mixing) fourth_row_additive fourth_tested v h))
 
--- The column of the number that four bytes make.
-pub column_of : (w : List ℕ) (a b c d v : ℕ) → a ≡ (byte (get_or w 0 0)).value → b ≡ (byte (get_or w 1 0)).value → c ≡ (byte (get_or w 2 0)).value → d ≡ (byte (get_or w 3 0)).value → v ≡ a + b * 256 + c * 65536 + d * 16777216 → column v ≡ word w
-unfolding byte word_at
-column_of w a b c d v is-a is_b is_c is-d is =
+-- The column of the number that the four bytes of a word make.
+pub column_of : (w bytes : List ℕ) (v : ℕ) → bytes ≡ word_bytes (word w) → v ≡ get_or bytes 0 0 + get_or bytes 1 0 * 256 + get_or bytes 2 0 * 65536 + get_or bytes 3 0 * 16777216 → column v ≡ word w
+unfolding byte word_at word_bytes
+column_of w bytes v held is =
+    let e : v ≡ (byte (get_or w 0 0)).value + (byte (get_or w 1 0)).value * 256 + (byte (get_or w 2 0)).value * 65536 + (byte (get_or w 3 0)).value * 16777216 =
+    is ∙ ap (λ bs. get_or bs 0 0 + get_or bs 1 0 * 256 + get_or bs 2 0 * 65536 + get_or bs 3 0 * 16777216) held in
     λ i. word_of (byte_path (low v) (byte (get_or w 0 0)) (omega arith) i) (byte_path (at 8 v) (byte (get_or w 1 0)) (omega arith) i) (byte_path (at 16 v) (byte (get_or w 2 0)) (omega arith) i) (byte_path (at 24 v) (byte (get_or w 3 0)) (omega arith) i)

@@ -1,13 +1,16 @@
 -- Key expansion in arrays of four bytes: one word after another, and what they cost. Assumes nothing.
 use Rattle.std.proofs.Common.{◌≡◌, ℕ, zero, suc, ◌+◌, ◌-◌, ◌*◌, ◌/◌, ◌%◌, ◌<◌, ◌≤◌, Bool, true, false, cond, ◌&&◌, ◌||◌, eqb, ltb, List, [], ◌∷◌, ◌++◌, length, get_or, take, drop, set, sym, refl, ap, ◌∙◌, subst, ap₂, inl, inr, le_refl, add-zero, add-suc, add-one, arith, lit≤, take-add}
-use lib.Seq.{take-length}
+use Rattle.std.proofs.Math.Seq.{take-length}
+use Rattle.std.specs.Simd.{first_chunks}
 use Rattle.std.proofs.lemmas.List.{append-nil, append_assoc, length-map, length_push, length-take-le, length-drop, length-replicate, get_or-take, get_or-map, take_more_set, drop_more, drop-drop, drop-set-lt, drop-replicate, map_push}
 use Rattle.std.proofs.lemmas.Bool.{eqb-true, or_cases}
-use Rattle.fields.specs.WordLaws.{byte_of-value}
+use Rattle.fields.specs.Bytes.{byte}
+use Rattle.fields.specs.WordLaws.{byte-value, byte_of-value}
 use Rattle.cipher.specs.Fips197.{Word, word, word_at, word_bytes, word_sum, zero_word, words, rot_word, sub_word, rcon, scheduled, next_word, key_expansion, key_schedule, round_key, state_of}
 use Rattle.cipher.specs.Keys.{key_length, key_cost, word_cost, words_cost, schedule_length, zero_arrays}
 use Rattle.cipher.specs.Layout.{columns_state, held_words, word_lists, in_a_row}
 use Rattle.cipher.proofs.Columns.{word_path}
+use Rattle.cipher.proofs.Lists.{four}
 
 -- ---- words and arrays
 
@@ -51,43 +54,47 @@ unused_more i arrays a z =
 
 -- ---- the key's words
 
-in_a_row_push : (xs : List (List ℕ)) (x : List ℕ) → in_a_row (xs ++ (x ∷ [])) ≡ in_a_row xs ++ x
-unfolding in_a_row
-in_a_row_push [] x = append-nil x
-in_a_row_push (y ∷ ys) x = ap (λ zs. y ++ zs) (in_a_row_push ys x) ∙ sym (append_assoc y (in_a_row ys) x)
-
 -- The four bytes from place k on.
-abbrev pub four_at : List ℕ → ℕ → List ℕ
+abbrev four_at : List ℕ → ℕ → List ℕ
 four_at xs k = get_or xs k 0 ∷ get_or xs (k + 1) 0 ∷ get_or xs (k + 2) 0 ∷ get_or xs (k + 3) 0 ∷ []
 
 one_more : (xs : List ℕ) (k n : ℕ) → k < length xs → k + 1 ≡ n → drop k xs ≡ get_or xs k 0 ∷ drop n xs
 one_more xs k n h e = drop_more xs k 0 h ∙ ap (λ m. get_or xs k 0 ∷ drop m xs) e
 
-take_four : (xs : List ℕ) (k : ℕ) → k + 3 < length xs → take (k + 4) xs ≡ take k xs ++ four_at xs k
+take_four : (xs : List ℕ) (k : ℕ) → k + 3 < length xs → take 4 (drop k xs) ≡ four_at xs k
 take_four xs k h =
     let p0 = one_more xs k (k + 1) (omega arith) refl in
     let p1 = one_more xs (k + 1) (k + 2) (omega arith) (omega arith) in
     let p2 = one_more xs (k + 2) (k + 3) (omega arith) (omega arith) in
     let p3 = one_more xs (k + 3) (k + 4) h (omega arith) in
     let rest : drop k xs ≡ get_or xs k 0 ∷ get_or xs (k + 1) 0 ∷ get_or xs (k + 2) 0 ∷ get_or xs (k + 3) 0 ∷ drop (k + 4) xs = cc in
-    take-add k 4 xs ∙ ap (λ ds. take k xs ++ take 4 ds) rest
+    ap (take 4) rest
 
--- The first i words of a key stand in the first arrays, and are its first 4i bytes.
-abbrev pub KeyHeld : List ℕ → ℕ → List (List ℕ) → Type 0
-KeyHeld key i arrays = (take i arrays ≡ word_lists (words i key)) × (in_a_row (take i arrays) ≡ take (4 * i) key)
+chunks_more : (k : ℕ) (xs : List ℕ) → first_chunks 4 (suc k) xs ≡ first_chunks 4 k xs ++ (take 4 (drop (4 * k) xs) ∷ [])
+chunks_more zero xs = refl
+chunks_more (suc k) xs =
+    ap (λ cs. take 4 xs ∷ cs) (chunks_more k (drop 4 xs))
+    ∙ ap (λ c. take 4 xs ∷ first_chunks 4 k (drop 4 xs) ++ (take 4 c ∷ [])) (drop-drop (4 * k) 4 xs ∙ ap (λ n. drop n xs) (let e : 4 + 4 * k ≡ 4 * suc k = omega arith in e))
 
-pub key_held_more : (key : List ℕ) (i : ℕ) (arrays : List (List ℕ)) → KeyHeld key i arrays → i < length arrays → 4 * i + 3 < length key → four_at key (4 * i) ≡ word_bytes (word_at key (4 * i)) → KeyHeld key (i + 1) (set arrays i (four_at key (4 * i)))
-unfolding words
-key_held_more key i arrays inv l h e =
-    let stored = take_more_set arrays i (four_at key (4 * i)) l in
-    let next : 4 * i + 4 ≡ 4 * (i + 1) = omega arith in (
-      stored ∙ ap₂ (λ front a. front ++ (a ∷ [])) inv.0 e ∙ sym (map_push word_bytes (words i key) (word_at key (4 * i))) ∙ ap (λ n. word_lists (words n key)) (sym (add-one i)),
-      ap in_a_row stored ∙ in_a_row_push (take i arrays) (four_at key (4 * i)) ∙ ap (λ xs. xs ++ four_at key (4 * i)) inv.1 ∙ sym (take_four key (4 * i) h)
-          ∙ ap (λ n. take n key) next,
-    )
+-- The chunks of a key hold its words.
+pub chunks_words : (key : List ℕ) → ((k : ℕ) → get_or key k 0 < 256) → (n : ℕ) → 4 * n ≤ length key → first_chunks 4 n key ≡ word_lists (words n key)
+unfolding words word_at word_bytes
+chunks_words key fits zero h = refl
+chunks_words key fits (suc n) h =
+    let value : (k : ℕ) → get_or key k 0 ≡ (byte (get_or key k 0)).value = λ k. sym (byte-value _ (fits k)) in
+    chunks_more n key
+    ∙ ap₂ (λ cs c. cs ++ (c ∷ [])) (chunks_words key fits n (omega arith)) (take_four key (4 * n) (omega arith) ∙ four (value _) (value _) (value _) (value _))
+    ∙ sym (map_push word_bytes (words n key) (word_at key (4 * n)))
 
-pub key_held_all : (key : List ℕ) (n : ℕ) (arrays : List (List ℕ)) → KeyHeld key n arrays → 4 * n ≡ length key → in_a_row (take n arrays) ≡ key
-key_held_all key n arrays inv e = inv.1 ∙ ap (λ m. take m key) e ∙ take-length key
+chunks_in_a_row : (n : ℕ) (xs : List ℕ) → in_a_row (first_chunks 4 n xs) ≡ take (4 * n) xs
+unfolding in_a_row
+chunks_in_a_row zero xs = refl
+chunks_in_a_row (suc n) xs =
+    ap (λ ys. take 4 xs ++ ys) (chunks_in_a_row n (drop 4 xs)) ∙ sym (take-add 4 (4 * n) xs) ∙ ap (λ m. take m xs) (let e : 4 + 4 * n ≡ 4 * suc n = omega arith in e)
+
+-- The chunks of a key in a row are the key.
+pub chunks_key : (key : List ℕ) (n : ℕ) → 4 * n ≡ length key → in_a_row (first_chunks 4 n key) ≡ key
+chunks_key key n e = chunks_in_a_row n key ∙ ap (λ m. take m key) e ∙ take-length key
 
 -- ---- what becomes of the word before word i, and what that costs
 

@@ -1,11 +1,12 @@
 -- A block turned under a schedule is turned under its key. Assumes nothing.
 use Rattle.std.proofs.Common.{◌≡◌, ℕ, zero, suc, ◌+◌, ◌-◌, ◌*◌, ◌/◌, ◌<◌, ◌≤◌, cond, eqb, leb, List, [], ◌∷◌, length, get_or, take, Some, None, Option, sym, refl, ap, ◌∙◌, subst, ap₂, not-suc-le-zero, arith, length-append}
+use Rattle.std.proofs.lemmas.Bool.Decides.{nat_tests}
 use Rattle.std.specs.Option.{option_map}
 use Rattle.routes.specs.Routes.{cap}
 use Rattle.cipher.specs.Engines.{engine_key, block_verdict, Headroom, TurnedBy}
 use Rattle.cipher.specs.Keys.{key_length}
-use Rattle.cipher.specs.Fips197.{Word, word_bytes, state, state_bytes, cipher, inv_cipher, key_schedule, round_count, aes, aes_inverse}
-use Rattle.cipher.specs.Layout.{in_a_row}
+use Rattle.cipher.specs.Fips197.{Word, State, word_bytes, state, state_bytes, key_schedule, round_count}
+use Rattle.cipher.specs.Layout.{in_a_row, aes_by}
 use Rattle.cipher.specs.Schedules.{schedule_key, schedule_words, schedule_rounds, turn_verdict}
 use Rattle.cipher.specs.declared.engine.Engine.{Engine}
 use Rattle.cipher.specs.declared.schedule.KeySchedule.{KeySchedule}
@@ -42,13 +43,15 @@ module _ (s : KeySchedule) where
   of_key : (f : ℕ → List Word → List ℕ) → f (schedule_rounds s) (schedule_words s) ≡ f (round_count (length (schedule_key s) / 4)) (key_schedule (length (schedule_key s) / 4) (schedule_key s))
   of_key f = ap (f (schedule_rounds s)) (schedule_is s) ∙ ap (λ k. f (round_count k) (key_schedule k (schedule_key s))) (sym key_quarter)
 
-  pub encrypts : (block : List ℕ) → state_bytes (cipher (state block) (schedule_rounds s) (schedule_words s)) ≡ aes (length (schedule_key s) / 4) (schedule_key s) block
-  unfolding aes
-  encrypts block = of_key (λ nr w. state_bytes (cipher (state block) nr w))
+  pub turns : (turned : State → ℕ → List Word → State) (block : List ℕ) → state_bytes (turned (state block) (schedule_rounds s) (schedule_words s)) ≡ aes_by turned (length (schedule_key s) / 4) (schedule_key s) block
+  turns turned block = of_key (λ nr w. state_bytes (turned (state block) nr w))
 
-  pub decrypts : (block : List ℕ) → state_bytes (inv_cipher (state block) (schedule_rounds s) (schedule_words s)) ≡ aes_inverse (length (schedule_key s) / 4) (schedule_key s) block
-  unfolding aes_inverse
-  decrypts block = of_key (λ nr w. state_bytes (inv_cipher (state block) nr w))
+  -- A block of sixteen bytes is refused for its rounds alone.
+  pub verdict_late : (n tally : ℕ) → n ≡ 16 → cap - tally < schedule_rounds s → turn_verdict s n tally ≡ Some (6, cap - tally)
+  verdict_late n tally e h = grind (arith, nat_tests)
+
+  pub verdict_taken : (n tally : ℕ) → n ≡ 16 → tally ≤ cap → schedule_rounds s ≤ cap - tally → turn_verdict s n tally ≡ None
+  verdict_taken n tally e l h = grind (arith, nat_tests)
 
 -- The verdict of an engine that holds a schedule.
 pub held_verdict : (o : Option KeySchedule) (s : KeySchedule) (n t t' : ℕ) {v : Option (ℕ × ℕ)} → o ≡ Some s → t ≡ t' → turn_verdict s n t ≡ v → block_verdict (option_map schedule_key o) n t' ≡ v

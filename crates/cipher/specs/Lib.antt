@@ -1,3 +1,4 @@
+pub mod Asking
 pub mod Engines
 pub mod Figures
 pub mod Fips197

@@ -1,28 +1,13 @@
 //! The engine: the cipher of FIPS 197 over a route.
-ghost use Rattle.std.specs.Prelude.{◌≡◌, ◌≤◌, None};
-ghost use Rattle.routes.specs.Routes.{cap};
+ghost use Rattle.std.specs.Prelude.{◌≡◌, None};
 ghost use Rattle.cipher.specs.Engines.{engine_key, Headroom, KeySet, Turned};
-ghost use Rattle.cipher.specs.Schedules.{Admitted};
 ghost use Rattle.cipher.specs.Fips197.{aes, aes_inverse};
+ghost use Rattle.cipher.specs.Layout.{aes_by};
 
-use crate::block::{decrypt_block, encrypt_block};
+use crate::block::turn_block;
+use crate::rounds::{Cipher, Direction, InvCipher};
 use crate::schedule::KeySchedule;
 use routes::{CAP, Refusal, Route};
-
-/// Whether a block of this length can be turned at a tally under a key that is set.
-fn admit(schedule: &KeySchedule, length: usize, tally: u64) -> Result<(), Refusal>
-    requires { tally ≤ cap }
-    ensures { Admitted schedule.now length tally result }
-{
-    if length != 16 {
-        return Err(Refusal::BlockLength(length as u64));
-    }
-    let left = CAP - tally;
-    if schedule.rounds() as u64 > left {
-        return Err(Refusal::Inversions(left));
-    }
-    Ok(())
-}
 
 /// A block cipher over a route. It keeps the expanded schedule of its key; the key is read off the schedule's first words.
 #[derive(Drop)]
@@ -77,24 +62,33 @@ impl<R: Route> Engine<R> {
     pub fn encrypt(&mut self, block: &mut [u8]) -> Result<(), Refusal>
         ensures { Turned R.Route.tally self.old self.new aes block.old block.new result }
     {
-        let Some(schedule) = &self.schedule else {
-            return Err(Refusal::NoKey);
-        };
-        // Whatever is refused is refused here, before block and route are touched.
-        admit(schedule, block.len(), self.route.tally())?;
-        encrypt_block(&mut self.route, schedule, block);
-        Ok(())
+        self.turn::<Cipher>(block)
     }
 
     /// Replaces a block of 16 bytes by its inverse cipher under the key set. Refused as `encrypt` is.
     pub fn decrypt(&mut self, block: &mut [u8]) -> Result<(), Refusal>
         ensures { Turned R.Route.tally self.old self.new aes_inverse block.old block.new result }
     {
+        self.turn::<InvCipher>(block)
+    }
+
+    /// Turns a block in a direction.
+    fn turn<D: Direction>(&mut self, block: &mut [u8]) -> Result<(), Refusal>
+        ensures { Turned R.Route.tally self.old self.new (aes_by D.turned) block.old block.new result }
+    {
         let Some(schedule) = &self.schedule else {
             return Err(Refusal::NoKey);
         };
-        admit(schedule, block.len(), self.route.tally())?;
-        decrypt_block(&mut self.route, schedule, block);
+        let length = block.len() as u64;
+        let Some(block) = block.as_mut_array::<16>() else {
+            return Err(Refusal::BlockLength(length));
+        };
+        // Whatever is refused is refused here, before block and route are touched.
+        let left = CAP - self.route.tally();
+        if schedule.rounds() as u64 > left {
+            return Err(Refusal::Inversions(left));
+        }
+        turn_block::<D, R>(&mut self.route, schedule, block);
         Ok(())
     }
 }

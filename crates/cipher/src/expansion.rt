@@ -1,6 +1,6 @@
 //! KEYEXPANSION: the words of a key's schedule.
-ghost use Rattle.std.specs.Prelude.{◌≡◌, ◌+◌, ◌-◌, ◌/◌, ◌<◌, ◌≤◌, true, length, take, drop};
-ghost use Rattle.routes.specs.Routes.{cap};
+ghost use Rattle.std.specs.Prelude.{◌≡◌, ◌-◌, ◌/◌, ◌<◌, true, length, take, drop};
+ghost use Rattle.cipher.specs.Asking.{CanAsk, AskedTimes};
 ghost use Rattle.cipher.specs.Fips197.{word, word_bytes, words, rot_word, rcon, scheduled, key_schedule};
 ghost use Rattle.cipher.specs.Keys.{key_length, key_cost, word_cost, schedule_length, zero_arrays};
 ghost use Rattle.cipher.specs.Layout.{word_lists, in_a_row};
@@ -30,10 +30,9 @@ fn round_constant(j: usize) -> Word
 /// What becomes of word i - 1 before word i - nk is added to it.
 fn prepared<R: Route>(route: &mut R, temp: Word, nk: usize, i: usize) -> Word
     requires divides { 0 < nk }
-    requires room { R.Route.tally route.old + word_cost nk i ≤ cap }
+    requires room { CanAsk R.Route.tally route.old (word_cost nk i) }
     ensures value { word result ≡ scheduled nk i (word temp) }
-    ensures counted { R.Route.tally route.new ≡ R.Route.tally route.old + word_cost nk i }
-    ensures named { R.Route.name route.new ≡ R.Route.name route.old }
+    ensures asked { AskedTimes R.Route.tally R.Route.name route.old route.new (word_cost nk i) }
 {
     if i % nk == 0 {
         return add(sub_word(route, rot_word(temp)), round_constant(i / nk));
@@ -52,21 +51,19 @@ fn key_first(key: &[u8]) -> [Word; 60]
     ensures rest { drop (length key.now / 4) result ≡ zero_arrays (60 - length key.now / 4) }
 {
     let mut words = [[0; 4]; 60];
-    for i in 0..key.len() / 4 {
-        words[i] = [key[4 * i], key[4 * i + 1], key[4 * i + 2], key[4 * i + 3]];
-    }
+    let (front, _) = key.as_chunks::<4>();
+    words[..front.len()].copy_from_slice(front);
     words
 }
 
 /// The words of a key's schedule, followed by words of bytes 00.
 pub(crate) fn expanded<R: Route>(route: &mut R, key: &[u8]) -> [Word; 60]
     requires size { key_length (length key.now) ≡ true }
-    requires room { R.Route.tally route.old + key_cost (length key.now) ≤ cap }
+    requires room { CanAsk R.Route.tally route.old (key_cost (length key.now)) }
     ensures value { take (schedule_length (length key.now / 4)) result ≡ word_lists (key_schedule (length key.now / 4) key.now) }
     ensures bytes { in_a_row (take (length key.now / 4) result) ≡ key.now }
     ensures rest { drop (schedule_length (length key.now / 4)) result ≡ zero_arrays (60 - schedule_length (length key.now / 4)) }
-    ensures counted { R.Route.tally route.new ≡ R.Route.tally route.old + key_cost (length key.now) }
-    ensures named { R.Route.name route.new ≡ R.Route.name route.old }
+    ensures asked { AskedTimes R.Route.tally R.Route.name route.old route.new (key_cost (length key.now)) }
 {
     let nk = key.len() / 4;
     let mut words = key_first(key);

@@ -1,11 +1,11 @@
 //! The state, an array of four columns of four bytes, and the steps of a round.
-ghost use Rattle.std.specs.Prelude.{◌≡◌, ◌+◌, ◌<◌, ◌++◌};
+ghost use Rattle.std.specs.Prelude.{◌≡◌};
 ghost use Rattle.fields.specs.Bytes.{byte};
-ghost use Rattle.routes.specs.Routes.{cap};
-ghost use Rattle.cipher.specs.Fips197.{◌•◌, word, word_bytes, sub_bytes, inv_sub_bytes, shift_rows, inv_shift_rows, mix_column, inv_mix_column, mix_columns, inv_mix_columns, add_round_key, state, state_bytes};
+ghost use Rattle.cipher.specs.Asking.{CanAsk, AskedTimes};
+ghost use Rattle.cipher.specs.Fips197.{◌•◌, word, word_bytes, each_byte, each_column, shift_rows, inv_shift_rows, mix_column, mix_columns, inv_mix_columns, add_round_key, state, state_bytes};
 ghost use Rattle.cipher.specs.Layout.{columns_state, byte_row, by_matrix};
 
-use crate::substitution::{substitute, substitute_back};
+use crate::substitution::Substitution;
 use crate::words::{Word, add};
 use fields::{Byte, Field};
 use routes::Route;
@@ -25,40 +25,23 @@ pub(crate) fn from_bytes(b: [u8; 16]) -> State
     ]
 }
 
-/// The byte itself. Its contract says that it is the value of an element of the byte field, so below 256, which a proof needs where bytes are
-/// only moved.
-fn plain(b: u8) -> u8
-    ensures { result ≡ (byte b).value }
+/// The word itself. Its contract says that it is the bytes of a word, so each below 256, which a proof needs where bytes are only moved: of a
+/// slice's elements it knows that, and of an array's not.
+fn plain(w: Word) -> Word
+    ensures { result ≡ word_bytes (word w) }
 {
-    Byte::new(b).to_u8()
-}
-
-/// The eight bytes of two columns.
-fn half(a: Word, b: Word) -> [u8; 8]
-    ensures { result ≡ word_bytes (word a) ++ word_bytes (word b) }
-{
-    [
-        plain(a[0]),
-        plain(a[1]),
-        plain(a[2]),
-        plain(a[3]),
-        plain(b[0]),
-        plain(b[1]),
-        plain(b[2]),
-        plain(b[3]),
-    ]
+    let bytes = w.as_slice();
+    [bytes[0], bytes[1], bytes[2], bytes[3]]
 }
 
 /// The sixteen bytes of a state.
 pub(crate) fn to_bytes(s: State) -> [u8; 16]
     ensures { result ≡ state_bytes (columns_state s) }
 {
-    let h = half(s[0], s[1]);
-    let k = half(s[2], s[3]);
-    [
-        h[0], h[1], h[2], h[3], h[4], h[5], h[6], h[7], k[0], k[1], k[2], k[3], k[4], k[5], k[6],
-        k[7],
-    ]
+    let columns = s.map(plain);
+    let mut bytes = [0; 16];
+    bytes.copy_from_slice(columns.as_flattened());
+    bytes
 }
 
 /// SHIFTROWS: row r moves r places to the left.
@@ -74,17 +57,13 @@ pub(crate) fn shift_rows(s: State) -> State
     ]
 }
 
-/// INVSHIFTROWS: row r moves r places to the right.
+/// INVSHIFTROWS: row r moves r places to the right, which is to the left where the columns stand the other way round.
 pub(crate) fn inv_shift_rows(s: State) -> State
     ensures { columns_state result ≡ inv_shift_rows (columns_state s) }
 {
     let [a, b, c, d] = s;
-    [
-        [a[0], d[1], c[2], b[3]],
-        [b[0], a[1], d[2], c[3]],
-        [c[0], b[1], a[2], d[3]],
-        [d[0], c[1], b[2], a[3]],
-    ]
+    let [a, d, c, b] = shift_rows([a, d, c, b]);
+    [a, b, c, d]
 }
 
 /// ADDROUNDKEY: the sum of the state and a round key.
@@ -142,7 +121,7 @@ fn mixed<const P: u8, const Q: u8, const R: u8, const S: u8>(w: Word) -> Word
 fn mixed_forward(w: Word) -> Word
     ensures { result ≡ word_bytes (mix_column (word w)) }
 {
-    let v = u32::from_le_bytes([plain(w[0]), plain(w[1]), plain(w[2]), plain(w[3])]);
+    let v = u32::from_le_bytes(plain(w));
     let one = v >> 8 ^ v << 24;
     let two = v >> 16 ^ v << 16;
     let three = v >> 24 ^ v << 8;
@@ -156,46 +135,23 @@ fn mixed_forward(w: Word) -> Word
 pub(crate) fn mix_columns(s: State) -> State
     ensures { columns_state result ≡ mix_columns (columns_state s) }
 {
-    [
-        mixed_forward(s[0]),
-        mixed_forward(s[1]),
-        mixed_forward(s[2]),
-        mixed_forward(s[3]),
-    ]
+    s.map(mixed_forward)
 }
 
 /// INVMIXCOLUMNS
 pub(crate) fn inv_mix_columns(s: State) -> State
     ensures { columns_state result ≡ inv_mix_columns (columns_state s) }
 {
-    [
-        mixed::<0x0e, 0x0b, 0x0d, 0x09>(s[0]),
-        mixed::<0x0e, 0x0b, 0x0d, 0x09>(s[1]),
-        mixed::<0x0e, 0x0b, 0x0d, 0x09>(s[2]),
-        mixed::<0x0e, 0x0b, 0x0d, 0x09>(s[3]),
-    ]
+    s.map(mixed::<0x0e, 0x0b, 0x0d, 0x09>)
 }
 
-/// SUBBYTES, by one call of the route.
-pub(crate) fn sub_bytes<R: Route>(route: &mut R, s: State) -> State
-    requires { R.Route.tally route.old < cap }
-    ensures value { columns_state result ≡ sub_bytes (columns_state s) }
-    ensures counted { R.Route.tally route.new ≡ R.Route.tally route.old + 1 }
-    ensures named { R.Route.name route.new ≡ R.Route.name route.old }
+/// SUBBYTES or INVSUBBYTES, by one call of the route.
+pub(crate) fn sub_bytes<S: Substitution, R: Route>(route: &mut R, s: State) -> State
+    requires { CanAsk R.Route.tally route.old 1 }
+    ensures value { columns_state result ≡ each_column (each_byte S.at) (columns_state s) }
+    ensures asked { AskedTimes R.Route.tally R.Route.name route.old route.new 1 }
 {
     let mut bytes = to_bytes(s);
-    substitute(route, &mut bytes);
-    from_bytes(bytes)
-}
-
-/// INVSUBBYTES, by one call of the route.
-pub(crate) fn inv_sub_bytes<R: Route>(route: &mut R, s: State) -> State
-    requires { R.Route.tally route.old < cap }
-    ensures value { columns_state result ≡ inv_sub_bytes (columns_state s) }
-    ensures counted { R.Route.tally route.new ≡ R.Route.tally route.old + 1 }
-    ensures named { R.Route.name route.new ≡ R.Route.name route.old }
-{
-    let mut bytes = to_bytes(s);
-    substitute_back(route, &mut bytes);
+    S::substitute(route, &mut bytes);
     from_bytes(bytes)
 }

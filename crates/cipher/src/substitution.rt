@@ -1,62 +1,61 @@
 //! The S-box and its inverse, sixteen bytes at a time, by one call of a route.
-ghost use Rattle.std.specs.Prelude.{◌≡◌, ℕ, ◌+◌, ◌<◌, slice_index};
+ghost use Rattle.std.specs.Prelude.{◌≡◌, ℕ, ◌<◌, slice_index};
 ghost use Rattle.fields.specs.Bytes.{byte};
-ghost use Rattle.routes.specs.Routes.{cap};
-ghost use Rattle.cipher.specs.Fips197.{affine, inv_affine, s_box, inv_s_box};
+ghost use Rattle.fields.specs.declared.byte.Byte.{Byte};
+ghost use Rattle.cipher.specs.Asking.{CanAsk, AskedTimes};
+ghost use Rattle.cipher.specs.Fips197.{s_box, inv_s_box};
+ghost use Rattle.cipher.specs.Layout.{affine_map};
 
 use fields::cyclic_product;
 use routes::Route;
 
-/// The affine map of the S-box: times 1F modulo x^8 + 1, plus 63.
-fn affine_of(b: u8) -> u8
-    ensures { result ≡ affine (byte b).value }
+/// The affine map of the S-box or of its inverse: times a constant modulo x^8 + 1, plus another.
+fn affine<const FACTOR: u8, const OFFSET: u8>(b: u8) -> u8
+    ensures { result ≡ affine_map FACTOR OFFSET (byte b).value }
 {
-    cyclic_product(b, 0x1F) ^ 0x63
+    cyclic_product(b, FACTOR) ^ OFFSET
 }
 
-/// Its inverse: times 4A modulo x^8 + 1, plus 05.
-fn inv_affine_of(b: u8) -> u8
-    ensures { result ≡ inv_affine (byte b).value }
-{
-    cyclic_product(b, 0x4A) ^ 0x05
-}
-
-/// Takes each byte through the affine map.
-fn affine_all(bytes: &mut [u8; 16])
-    ensures { (i : ℕ) → i < 16 → slice_index bytes.new i ≡ affine (byte (slice_index bytes.old i)).value }
+/// Takes each byte through an affine map.
+fn affine_all<const FACTOR: u8, const OFFSET: u8>(bytes: &mut [u8; 16])
+    ensures { (i : ℕ) → i < 16 → slice_index bytes.new i ≡ affine_map FACTOR OFFSET (byte (slice_index bytes.old i)).value }
 {
     for byte in bytes.iter_mut() {
-        *byte = affine_of(*byte);
+        *byte = affine::<FACTOR, OFFSET>(*byte);
     }
 }
 
-/// Takes each byte through the inverse of the affine map.
-fn inv_affine_all(bytes: &mut [u8; 16])
-    ensures { (i : ℕ) → i < 16 → slice_index bytes.new i ≡ inv_affine (byte (slice_index bytes.old i)).value }
-{
-    for byte in bytes.iter_mut() {
-        *byte = inv_affine_of(*byte);
+/// SBOX or INVSBOX, at sixteen bytes.
+pub(crate) trait Substitution {
+    ghost at: { Byte → Byte };
+
+    /// Takes each byte through it, by one call of the route.
+    fn substitute<R: Route>(route: &mut R, bytes: &mut [u8; 16])
+        requires { CanAsk R.Route.tally route.old 1 }
+        ensures boxed { (i : ℕ) → i < 16 → slice_index bytes.new i ≡ (at (byte (slice_index bytes.old i))).value }
+        ensures asked { AskedTimes R.Route.tally R.Route.name route.old route.new 1 };
+}
+
+/// SBOX: the inverse, and then the affine map, times 1F and plus 63.
+pub(crate) enum SBox {}
+
+impl Substitution for SBox {
+    ghost at = { s_box };
+
+    fn substitute<R: Route>(route: &mut R, bytes: &mut [u8; 16]) {
+        route.invert(bytes);
+        affine_all::<0x1F, 0x63>(bytes);
     }
 }
 
-/// Takes each byte through the S-box, by one call of the route.
-pub(crate) fn substitute<R: Route>(route: &mut R, bytes: &mut [u8; 16])
-    requires { R.Route.tally route.old < cap }
-    ensures boxed { (i : ℕ) → i < 16 → slice_index bytes.new i ≡ (s_box (byte (slice_index bytes.old i))).value }
-    ensures counted { R.Route.tally route.new ≡ R.Route.tally route.old + 1 }
-    ensures named { R.Route.name route.new ≡ R.Route.name route.old }
-{
-    route.invert(bytes);
-    affine_all(bytes);
-}
+/// INVSBOX: the inverse of the affine map, times 4A and plus 05, and then the inverse.
+pub(crate) enum InvSBox {}
 
-/// Takes each byte back through the inverse of the S-box, by one call of the route.
-pub(crate) fn substitute_back<R: Route>(route: &mut R, bytes: &mut [u8; 16])
-    requires { R.Route.tally route.old < cap }
-    ensures boxed { (i : ℕ) → i < 16 → slice_index bytes.new i ≡ (inv_s_box (byte (slice_index bytes.old i))).value }
-    ensures counted { R.Route.tally route.new ≡ R.Route.tally route.old + 1 }
-    ensures named { R.Route.name route.new ≡ R.Route.name route.old }
-{
-    inv_affine_all(bytes);
-    route.invert(bytes);
+impl Substitution for InvSBox {
+    ghost at = { inv_s_box };
+
+    fn substitute<R: Route>(route: &mut R, bytes: &mut [u8; 16]) {
+        affine_all::<0x4A, 0x05>(bytes);
+        route.invert(bytes);
+    }
 }

@@ -1,9 +1,9 @@
 //! Words: arrays of four bytes.
-ghost use Rattle.std.specs.Prelude.{◌≡◌, ◌+◌, ◌<◌};
-ghost use Rattle.routes.specs.Routes.{cap};
+ghost use Rattle.std.specs.Prelude.{◌≡◌};
+ghost use Rattle.cipher.specs.Asking.{CanAsk, AskedTimes};
 ghost use Rattle.cipher.specs.Fips197.{word, word_bytes, word_sum, sub_word};
 
-use crate::substitution::substitute;
+use crate::substitution::{SBox, Substitution};
 use routes::Route;
 
 /// A word, or a column of the state.
@@ -18,12 +18,11 @@ pub(crate) fn add(a: Word, b: Word) -> Word
 
 /// The word with each byte taken through the S-box, by one call of the route on its bytes followed by twelve bytes 00.
 pub(crate) fn sub_word<R: Route>(route: &mut R, w: Word) -> Word
-    requires { R.Route.tally route.old < cap }
+    requires { CanAsk R.Route.tally route.old 1 }
     ensures value { result ≡ word_bytes (sub_word (word w)) }
-    ensures counted { R.Route.tally route.new ≡ R.Route.tally route.old + 1 }
-    ensures named { R.Route.name route.new ≡ R.Route.name route.old }
+    ensures asked { AskedTimes R.Route.tally R.Route.name route.old route.new 1 }
 {
     let mut bytes = [w[0], w[1], w[2], w[3], 0, 0, 0, 0, 0, 0, 0, 0, 0, 0, 0, 0];
-    substitute(route, &mut bytes);
+    SBox::substitute(route, &mut bytes);
     [bytes[0], bytes[1], bytes[2], bytes[3]]
 }

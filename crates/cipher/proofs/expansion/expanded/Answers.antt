@@ -30,7 +30,7 @@ loop-i-preserved g c =
           (unused_room i c.loop-i.words inv.4 (omega arith)) inv.0 c.prepared-temp.ensures.value c.add.ensures,
       ap in_a_row (take-set-le nk c.loop-i.words i c.add.result (omega arith)) ∙ inv.1,
       omega (arith, cost_more nk i (omega arith)),
-      c.prepared-temp.ensures.named ∙ inv.3,
+      c.prepared-temp.ensures.asked.named ∙ inv.3,
       unused_more i c.loop-i.words c.add.result inv.4,
     )
 
@@ -46,6 +46,5 @@ returns g c =
       value = subst (λ n. take n c.loop-i.words ≡ word_lists (key_expansion nk (words nk key) (n - nk))) end inv.0;
       bytes = inv.1;
       rest = subst (λ n. UnusedPast n c.loop-i.words) end inv.4;
-      counted = inv.2 ∙ ap (λ n. g.R.Route.tally c.args.route.now + n) (ap (λ n. words_cost nk (n - nk)) end ∙ s.cost);
-      named = inv.3;
+      asked = record { counted = inv.2 ∙ ap (λ n. g.R.Route.tally c.args.route.now + n) (ap (λ n. words_cost nk (n - nk)) end ∙ s.cost); named = inv.3 };
     }

@@ -1,32 +1,28 @@
-use Rattle.std.proofs.Common.{◌≡◌, ℕ, ◌/◌, length, get_or, sym, refl, subst, arith}
-use Rattle.fields.specs.Bytes.{byte}
-use Rattle.fields.specs.WordLaws.{byte-value}
-use Rattle.cipher.specs.Fips197.{word_at, word_bytes, words}
+use Rattle.std.proofs.Common.{◌≡◌, ◌/◌, ◌++◌, ℕ, List, length, take, drop, sym, ap, ◌∙◌, arith}
+use Rattle.std.proofs.Math.Seq.{take-append_seam}
+use Rattle.std.specs.Simd.{first_chunks}
+use Rattle.cipher.specs.Keys.{zero_arrays}
 use Rattle.cipher.specs.Layout.{in_a_row}
-use Rattle.cipher.proofs.Expansions.{KeyHeld, key_held_more, key_held_all, UnusedPast, unused_room, unused_more, sized}
-use Rattle.cipher.proofs.Lists.{four}
+use Rattle.cipher.proofs.Expansions.{chunks_words, chunks_key, sized}
 use Rattle.cipher.proofs.expansion.key_first.Goals as goal
 
-pub loop-i-init : goal.loop-i-init
-unfolding words in_a_row
-loop-i-init c = ((refl, refl), refl)
+front_taken : (n : ℕ) (copied front chunks rest : List (List ℕ)) → copied ≡ front → front ≡ chunks → length front ≡ n → take n (copied ++ rest) ≡ chunks
+front_taken n copied front chunks rest p q l = ap (λ m. take m (copied ++ rest)) (sym (ap length p ∙ l)) ∙ take-append_seam copied rest ∙ p ∙ q
 
-pub loop-i-preserved : goal.loop-i-preserved
-unfolding word_at word_bytes
-loop-i-preserved c =
+pub returns-clause-value : goal.returns-clause-value
+returns-clause-value c =
     let key = c.args.key.now in
-    let arrays = c.loop-i.words in
-    let i = c.loop-i.i in
-    let inv = c.loop-i.invariant in
-    let s = sized (length key) c.requires in
-    let fits : (k : ℕ) → get_or key k 0 ≡ (byte (get_or key k 0)).value = λ k. sym (byte-value _ (c.type_inv.key k).fits) in (
-      key_held_more key i arrays inv.0 (unused_room i arrays inv.1 (omega arith)) (omega arith) (four (fits _) (fits _) (fits _) (fits _)),
-      unused_more i arrays _ inv.1,
-    )
+    let n = length key / 4 in
+    let chunks = c.as_chunks.ensures in
+    front_taken n c.copy_from_slice.new.self c.as_chunks.result.0.now (first_chunks 4 n key) (drop (length c.as_chunks.result.0.now) (zero_arrays 60))
+    c.copy_from_slice.ensures.after chunks.front chunks.front_len
+    ∙ chunks_words key (λ k. (c.type_inv.key k).fits) n (omega (arith, (sized (length key) c.requires).quarters))
 
-pub returns : goal.returns
-returns c =
+pub returns-clause-bytes : goal.returns-clause-bytes
+returns-clause-bytes c =
     let key = c.args.key.now in
-    let end : c.loop-i.i ≡ length key / 4 = omega arith in
-    let inv = subst (λ n. KeyHeld key n c.loop-i.words × UnusedPast n c.loop-i.words) end c.loop-i.invariant in
-    record { value = inv.0.0; bytes = key_held_all key (length key / 4) c.loop-i.words inv.0 (sized (length key) c.requires).quarters; rest = inv.1 }
+    let n = length key / 4 in
+    let chunks = c.as_chunks.ensures in
+    ap in_a_row (front_taken n c.copy_from_slice.new.self c.as_chunks.result.0.now (first_chunks 4 n key) (drop (length c.as_chunks.result.0.now) (zero_arrays 60))
+    c.copy_from_slice.ensures.after chunks.front chunks.front_len)
+    ∙ chunks_key key n (sized (length key) c.requires).quarters

@@ -14,8 +14,7 @@ returns-then-i-nk-eq0 g c =
           ap word c.add.ensures ∙ word_again _
           ∙ ap₂ word_sum (ap word boxed.value ∙ word_again _ ∙ ap sub_word c.rot_word.ensures) (ap word c.round_constant.ensures ∙ word_again _)
           ∙ sym way.0;
-      counted = omega (arith, boxed.counted, way.1);
-      named = boxed.named;
+      asked = record { counted = omega (arith, boxed.asked.counted, way.1); named = boxed.asked.named };
     }
 
 pub returns-then-i-nk-eq4 : goal.returns-then-i-nk-eq4
@@ -23,7 +22,7 @@ returns-then-i-nk-eq4 g c =
     let nk = c.args.nk in
     let way = settled nk c.args.i (word c.args.temp) false true (ne_eqb _ 0 c.if-i-nk-eq0.false) (and_from _ _ (lt-ltb 6 nk c.if-nk-gt6.true) (eq-eqb _ 4 c.if-i-nk-eq4.true)) in
     let boxed = c.sub_word-then-i-nk-eq4.ensures in
-    record { value = ap word boxed.value ∙ word_again _ ∙ sym way.0; counted = omega (arith, boxed.counted, way.1); named = boxed.named }
+    record { value = ap word boxed.value ∙ word_again _ ∙ sym way.0; asked = record { counted = omega (arith, boxed.asked.counted, way.1); named = boxed.asked.named } }
 
 pub returns : goal.returns
 returns g c =
@@ -35,4 +34,4 @@ returns g c =
       | else-nk-gt6-via-else-nk-gt6 w ↦ and_left _ _ (le-ltb 6 nk w.if-nk-gt6.false)
     ] in
     let way = settled nk i (word c.args.temp) false false (ne_eqb _ 0 c.if-i-nk-eq0.false) not_middle in
-    record { value = sym way.0; counted = omega (arith, way.1); named = refl }
+    record { value = sym way.0; asked = record { counted = omega (arith, way.1); named = refl } }

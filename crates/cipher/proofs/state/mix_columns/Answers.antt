@@ -1,10 +1,8 @@
-use Rattle.std.proofs.Common.{rules}
-use Rattle.cipher.specs.Fips197.{mix_columns}
-use Rattle.cipher.specs.Layout.{columns_state}
-use Rattle.cipher.proofs.Layouts.{columns_of}
+use Rattle.std.proofs.Common.{[], rules}
+use Rattle.cipher.specs.Fips197.{mix_column, mix_columns}
+use Rattle.cipher.proofs.Layouts.{state_of_mapped}
 use Rattle.cipher.proofs.state.mix_columns.Goals as goal
 
 pub returns : goal.returns
-unfolding columns_state mix_columns
-returns c =
-    search (rules, columns_of)
+unfolding mix_columns
+returns c = state_of_mapped mix_column _ _ (λ i h. let k = c.map.ensures.items.at i [] [] h in search rules)

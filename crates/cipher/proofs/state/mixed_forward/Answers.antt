@@ -7,5 +7,4 @@ pub returns : goal.returns
 returns c =
     let v = c.from_le_bytes-v.result in
     c.to_le_bytes.ensures ∙ mixed_bytes v (omega arith)
-    ∙ ap (λ w. word_bytes (mix_column w))
-    (column_of c.args.w c.plain.result c.plain-2.result c.plain-3.result c.plain-4.result v c.plain.ensures c.plain-2.ensures c.plain-3.ensures c.plain-4.ensures c.from_le_bytes-v.ensures)
+    ∙ ap (λ w. word_bytes (mix_column w)) (column_of c.args.w c.plain.result v c.plain.ensures c.from_le_bytes-v.ensures)

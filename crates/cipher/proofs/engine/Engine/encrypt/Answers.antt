@@ -1,17 +1,6 @@
-use Rattle.std.proofs.Common.{refl, rules}
-use Rattle.std.proofs.lemmas.Result.{err_from_is_err_and}
 use Rattle.cipher.specs.Fips197.{aes}
-use Rattle.cipher.proofs.Turning.{held_verdict, encrypts, turned_by}
 use Rattle.cipher.proofs.engine.Engine.encrypt.Goals as goal
 
-pub returns-in_err-admit : goal.returns-in_err-admit
-returns-in_err-admit g c =
-    let p = err_from_is_err_and c.from_residual.result c.from_residual.ensures.1 in
-    rw (p.1, p.2) (held_verdict c.args.self.now.schedule c.in-Some.schedule _ _ _ c.in-Some.is c.tally.ensures c.in_err-admit.ensures, refl, refl)
-
 pub returns : goal.returns
-returns g c =
-    let s = c.in-Some.schedule in (
-      held_verdict c.args.self.now.schedule s _ _ _ c.in-Some.is c.tally.ensures c.in_ok-admit.ensures,
-      turned_by g.R.Route.tally aes c.args.self.now _ s c.args.block.now _ c.in-Some.is refl (search (rules, encrypts s c.args.block.now)) (search rules),
-    )
+unfolding aes
+returns g c = c.turn.ensures

@@ -3,7 +3,7 @@ use Rattle.cipher.specs.Fips197.{add_round_key, mix_columns, shift_rows, sub_byt
 use Rattle.cipher.specs.Layout.{columns_state}
 use Rattle.cipher.specs.Schedules.{schedule_words, schedule_rounds}
 use Rattle.cipher.proofs.RoundSteps.{round_step}
-use Rattle.cipher.proofs.rounds.encrypt_state.Goals as goal
+use Rattle.cipher.proofs.rounds.CipherDirection.turn.Goals as goal
 
 pub loop-round-init : goal.loop-round-init
 unfolding rounds
@@ -18,12 +18,12 @@ loop-round-preserved g c =
     let back : n ≡ n + 1 - 1 = omega arith in (
       is.value ∙ ap₂ (λ s k. add_round_key (mix_columns (shift_rows (sub_bytes s))) k) c.loop-round.invariant.0 c.round_key-in-loop-round.ensures
           ∙ sym (round_step n w first (omega arith)) ∙ ap (λ m. rounds m w first) back,
-      omega (arith, is.counted, c.loop-round.invariant.1),
-      is.named ∙ c.loop-round.invariant.2,
+      omega (arith, is.asked.counted, c.loop-round.invariant.1),
+      is.asked.named ∙ c.loop-round.invariant.2,
     )
 
 pub returns : goal.returns
-unfolding cipher
+unfolding cipher sub_bytes
 returns g c =
     let w = schedule_words c.args.schedule.now in
     let s = columns_state c.args.s in
@@ -35,6 +35,5 @@ returns g c =
       value =
           c.add_round_key.ensures
           ∙ ap₂ add_round_key (c.shift_rows.ensures ∙ ap shift_rows (c.sub_bytes.ensures.value ∙ ap sub_bytes through)) (c.round_key-2.ensures ∙ ap (round_key w) nr);
-      counted = omega (arith, c.sub_bytes.ensures.counted, c.loop-round.invariant.1, done);
-      named = c.sub_bytes.ensures.named ∙ c.loop-round.invariant.2;
+      asked = record { counted = omega (arith, c.sub_bytes.ensures.asked.counted, c.loop-round.invariant.1, done); named = c.sub_bytes.ensures.asked.named ∙ c.loop-round.invariant.2 };
     }

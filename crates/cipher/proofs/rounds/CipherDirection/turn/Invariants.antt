@@ -2,7 +2,7 @@ use Rattle.std.proofs.Common.{◌≡◌, ◌+◌, ◌-◌}
 use Rattle.cipher.specs.Fips197.{rounds}
 use Rattle.cipher.specs.Layout.{columns_state}
 use Rattle.cipher.specs.Schedules.{schedule_words}
-use Rattle.cipher.proofs.rounds.encrypt_state.Given as goal
+use Rattle.cipher.proofs.rounds.CipherDirection.turn.Given as goal
 
 abbrev pub invariant-loop-round : goal.invariant-loop-round
 invariant-loop-round g l =

@@ -3,7 +3,7 @@ use Rattle.cipher.specs.Fips197.{add_round_key, inv_mix_columns, inv_shift_rows,
 use Rattle.cipher.specs.Layout.{columns_state}
 use Rattle.cipher.specs.Schedules.{schedule_words}
 use Rattle.cipher.proofs.RoundSteps.{inv_round_step}
-use Rattle.cipher.proofs.rounds.decrypt_state.Goals as goal
+use Rattle.cipher.proofs.rounds.InvCipherDirection.turn.Goals as goal
 
 pub loop-round-preserved : goal.loop-round-preserved
 loop-round-preserved g c =
@@ -13,16 +13,13 @@ loop-round-preserved g c =
     let is = c.one_round_back-next.ensures in (
       ap (inv_rounds (n - 1) w) (is.value ∙ ap (λ k. inv_mix_columns (add_round_key (inv_sub_bytes (inv_shift_rows t)) k)) c.round_key-in-loop-round.ensures)
           ∙ sym (inv_round_step n w t (omega arith)) ∙ c.loop-round.invariant.0,
-      omega (arith, is.counted, c.loop-round.invariant.1),
-      is.named ∙ c.loop-round.invariant.2,
+      omega (arith, is.asked.counted, c.loop-round.invariant.1),
+      is.asked.named ∙ c.loop-round.invariant.2,
       omega arith,
     )
 
-pub inv_sub_bytes-requires : goal.inv_sub_bytes-requires
-inv_sub_bytes-requires g c = omega (arith, c.loop-round.invariant.1, c.loop-round.invariant.3, c.rounds-rounds.ensures)
-
 pub returns : goal.returns
-unfolding inv_cipher inv_rounds
+unfolding inv_cipher inv_rounds inv_sub_bytes
 returns g c =
     let w = schedule_words c.args.schedule.now in
     let s = columns_state c.args.s in
@@ -33,7 +30,6 @@ returns g c =
     record {
       value =
           c.add_round_key.ensures
-          ∙ ap₂ add_round_key (c.inv_sub_bytes.ensures.value ∙ ap inv_sub_bytes (c.inv_shift_rows.ensures ∙ ap inv_shift_rows through)) c.round_key-2.ensures;
-      counted = omega (arith, c.inv_sub_bytes.ensures.counted, c.loop-round.invariant.1, done, nr);
-      named = c.inv_sub_bytes.ensures.named ∙ c.loop-round.invariant.2;
+          ∙ ap₂ add_round_key (c.sub_bytes.ensures.value ∙ ap inv_sub_bytes (c.inv_shift_rows.ensures ∙ ap inv_shift_rows through)) c.round_key-2.ensures;
+      asked = record { counted = omega (arith, c.sub_bytes.ensures.asked.counted, c.loop-round.invariant.1, done, nr); named = c.sub_bytes.ensures.asked.named ∙ c.loop-round.invariant.2 };
     }
