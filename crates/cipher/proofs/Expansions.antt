@@ -1,5 +1,5 @@
 -- Key expansion in arrays of four bytes: one word after another, and what they cost. Assumes nothing.
-use Rattle.std.proofs.Common.{◌≡◌, ℕ, zero, suc, ◌+◌, ◌-◌, ◌*◌, ◌/◌, ◌%◌, ◌<◌, ◌≤◌, Bool, true, false, cond, ◌&&◌, ◌||◌, eqb, ltb, List, [], ◌∷◌, ◌++◌, length, get_or, take, drop, set, sym, refl, ap, ◌∙◌, subst, ap₂, inl, inr, le_refl, add-zero, add-suc, add-one, arith, lit≤, take-add}
+use Rattle.std.proofs.Common.{◌≡◌, ℕ, zero, suc, ◌+◌, ◌-◌, ◌*◌, ◌/◌, ◌%◌, ◌<◌, ◌≤◌, Bool, true, false, cond, ◌&&◌, ◌||◌, eqb, ltb, List, [], ◌∷◌, ◌++◌, length, get_or, take, drop, set, sym, refl, ap, ◌∙◌, subst, ap₂, inl, inr, le_refl, not-suc-le-zero, add-zero, add-suc, add-one, arith, lit≤, take-add}
 use Rattle.std.proofs.Math.Seq.{take-length}
 use Rattle.std.specs.Simd.{first_chunks}
 use Rattle.std.proofs.lemmas.List.{append-nil, append_assoc, length-map, length_push, length-take-le, length-drop, length-replicate, get_or-take, get_or-map, take_more_set, drop_more, drop-drop, drop-set-lt, drop-replicate, map_push}
@@ -54,21 +54,29 @@ unused_more i arrays a z =
 
 -- ---- the key's words
 
--- The four bytes from place k on.
-abbrev four_at : List ℕ → ℕ → List ℕ
-four_at xs k = get_or xs k 0 ∷ get_or xs (k + 1) 0 ∷ get_or xs (k + 2) 0 ∷ get_or xs (k + 3) 0 ∷ []
+module _ {A : Type 0} (d : A) where
+  -- The four elements from place k on.
+  abbrev four_at : List A → ℕ → List A
+  four_at xs k = get_or xs k d ∷ get_or xs (k + 1) d ∷ get_or xs (k + 2) d ∷ get_or xs (k + 3) d ∷ []
 
-one_more : (xs : List ℕ) (k n : ℕ) → k < length xs → k + 1 ≡ n → drop k xs ≡ get_or xs k 0 ∷ drop n xs
-one_more xs k n h e = drop_more xs k 0 h ∙ ap (λ m. get_or xs k 0 ∷ drop m xs) e
+  one_more : (xs : List A) (k n : ℕ) → k < length xs → k + 1 ≡ n → drop k xs ≡ get_or xs k d ∷ drop n xs
+  one_more xs k n h e = drop_more xs k d h ∙ ap (λ m. get_or xs k d ∷ drop m xs) e
 
-take_four : (xs : List ℕ) (k : ℕ) → k + 3 < length xs → take 4 (drop k xs) ≡ four_at xs k
-take_four xs k h =
-    let p0 = one_more xs k (k + 1) (omega arith) refl in
-    let p1 = one_more xs (k + 1) (k + 2) (omega arith) (omega arith) in
-    let p2 = one_more xs (k + 2) (k + 3) (omega arith) (omega arith) in
-    let p3 = one_more xs (k + 3) (k + 4) h (omega arith) in
-    let rest : drop k xs ≡ get_or xs k 0 ∷ get_or xs (k + 1) 0 ∷ get_or xs (k + 2) 0 ∷ get_or xs (k + 3) 0 ∷ drop (k + 4) xs = cc in
-    ap (take 4) rest
+  pub take_four : (xs : List A) (k : ℕ) → k + 3 < length xs → take 4 (drop k xs) ≡ four_at xs k
+  take_four xs k h =
+      let p0 = one_more xs k (k + 1) (omega arith) refl in
+      let p1 = one_more xs (k + 1) (k + 2) (omega arith) (omega arith) in
+      let p2 = one_more xs (k + 2) (k + 3) (omega arith) (omega arith) in
+      let p3 = one_more xs (k + 3) (k + 4) h (omega arith) in
+      let rest : drop k xs ≡ get_or xs k d ∷ get_or xs (k + 1) d ∷ get_or xs (k + 2) d ∷ get_or xs (k + 3) d ∷ drop (k + 4) xs = cc in
+      ap (take 4) rest
+
+-- Chunk k of four elements each.
+pub chunk_at : {A : Type 0} (d : List A) (n k : ℕ) (xs : List A) → k < n → get_or (first_chunks 4 n xs) k d ≡ take 4 (drop (4 * k) xs)
+chunk_at d zero k xs h = absurd (not-suc-le-zero h)
+chunk_at d (suc n) zero xs h = refl
+chunk_at d (suc n) (suc k) xs h =
+    chunk_at d n k (drop 4 xs) (omega arith) ∙ ap (take 4) (drop-drop (4 * k) 4 xs ∙ ap (λ m. drop m xs) (let e : 4 + 4 * k ≡ 4 * suc k = omega arith in e))
 
 chunks_more : (k : ℕ) (xs : List ℕ) → first_chunks 4 (suc k) xs ≡ first_chunks 4 k xs ++ (take 4 (drop (4 * k) xs) ∷ [])
 chunks_more zero xs = refl
@@ -83,7 +91,7 @@ chunks_words key fits zero h = refl
 chunks_words key fits (suc n) h =
     let value : (k : ℕ) → get_or key k 0 ≡ (byte (get_or key k 0)).value = λ k. sym (byte-value _ (fits k)) in
     chunks_more n key
-    ∙ ap₂ (λ cs c. cs ++ (c ∷ [])) (chunks_words key fits n (omega arith)) (take_four key (4 * n) (omega arith) ∙ four (value _) (value _) (value _) (value _))
+    ∙ ap₂ (λ cs c. cs ++ (c ∷ [])) (chunks_words key fits n (omega arith)) (take_four 0 key (4 * n) (omega arith) ∙ four (value _) (value _) (value _) (value _))
     ∙ sym (map_push word_bytes (words n key) (word_at key (4 * n)))
 
 chunks_in_a_row : (n : ℕ) (xs : List ℕ) → in_a_row (first_chunks 4 n xs) ≡ take (4 * n) xs

@@ -49,16 +49,15 @@ impl Direction for Cipher {
     ghost turned = { cipher };
 
     fn turn<R: Route>(route: &mut R, schedule: &KeySchedule, s: State) -> State {
-        let rounds = schedule.rounds();
-        let mut t = add_round_key(s, schedule.round_key(0));
-        for round in 1..rounds {
-            let next = one_round(route, schedule.round_key(round), t);
+        let [first, inner @ .., last] = schedule.round_keys() else {
+            unreachable!()
+        };
+        let mut t = add_round_key(s, *first);
+        for key in inner {
+            let next = one_round(route, *key, t);
             t = next;
         }
-        add_round_key(
-            shift_rows(sub_bytes::<SBox, R>(route, t)),
-            schedule.round_key(rounds),
-        )
+        add_round_key(shift_rows(sub_bytes::<SBox, R>(route, t)), *last)
     }
 }
 
@@ -69,15 +68,14 @@ impl Direction for InvCipher {
     ghost turned = { inv_cipher };
 
     fn turn<R: Route>(route: &mut R, schedule: &KeySchedule, s: State) -> State {
-        let rounds = schedule.rounds();
-        let mut t = add_round_key(s, schedule.round_key(rounds));
-        for round in (1..rounds).rev() {
-            let next = one_round_back(route, schedule.round_key(round), t);
+        let [last, inner @ .., first] = schedule.round_keys() else {
+            unreachable!()
+        };
+        let mut t = add_round_key(s, *first);
+        for key in inner.iter().rev() {
+            let next = one_round_back(route, *key, t);
             t = next;
         }
-        add_round_key(
-            sub_bytes::<InvSBox, R>(route, inv_shift_rows(t)),
-            schedule.round_key(0),
-        )
+        add_round_key(sub_bytes::<InvSBox, R>(route, inv_shift_rows(t)), *last)
     }
 }

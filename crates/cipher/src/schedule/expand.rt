@@ -1,14 +1,15 @@
 //! Expanding a key, and reading its schedule.
-ghost use Rattle.std.specs.Prelude.{◌≡◌, ◌*◌, ◌≤◌, true, Some, None, MatchResult};
+ghost use Rattle.std.specs.Prelude.{◌≡◌, ℕ, ◌+◌, ◌*◌, ◌≤◌, true, [], length, take, slice_index_or, Some, None, MatchResult};
 ghost use Rattle.routes.specs.Refusals.{numbers};
 ghost use Rattle.routes.specs.Routes.{cap};
 ghost use Rattle.cipher.specs.Fips197.{round_count, round_key};
-ghost use Rattle.cipher.specs.Keys.{key_length, key_verdict};
+ghost use Rattle.cipher.specs.Keys.{key_length, key_verdict, schedule_length};
 ghost use Rattle.cipher.specs.Layout.{columns_state};
 ghost use Rattle.cipher.specs.Schedules.{schedule_words, HasWord, Expanded};
 
 use crate::expansion::expanded;
 use crate::schedule::KeySchedule;
+use crate::state::State;
 use crate::words::Word;
 use routes::{CAP, Refusal, Route};
 
@@ -57,28 +58,26 @@ impl KeySchedule {
         self.key_words + 6
     }
 
+    /// The words in use.
+    fn in_use(&self) -> &[Word]
+        ensures { result.now ≡ take (schedule_length self.now.key_words) self.now.words }
+    {
+        &self.words[..4 * (self.key_words + 7)]
+    }
+
     /// Word i of the schedule, or none past its end.
     pub fn word(&self, i: usize) -> Option<Word>
         ensures { HasWord self.now i result }
     {
-        if i < 4 * (self.key_words + 7) {
-            Some(self.words[i])
-        } else {
-            None
-        }
+        self.in_use().get(i).copied()
     }
 
-    /// The four words of the round key of a round.
-    pub(crate) fn round_key(&self, round: usize) -> [Word; 4]
-        requires { round ≤ round_count self.now.key_words }
-        ensures { columns_state result ≡ round_key (schedule_words self.now) round }
+    /// The round keys, from that of round 0 to that of the last.
+    pub(crate) fn round_keys(&self) -> &[State]
+        ensures count { length result.now ≡ round_count self.now.key_words + 1 }
+        ensures keys { (r : ℕ) → r ≤ round_count self.now.key_words → columns_state (slice_index_or result.now r []) ≡ round_key (schedule_words self.now) r }
     {
-        let first = 4 * round;
-        [
-            self.words[first],
-            self.words[first + 1],
-            self.words[first + 2],
-            self.words[first + 3],
-        ]
+        let (keys, _) = self.in_use().as_chunks::<4>();
+        keys
     }
 }
