@@ -45,6 +45,3 @@ module _ {R : Type 0} (tally : R → ℕ) (name : R → List ℕ) (key : List �
 -- Why a block of n bytes is refused at a tally under a schedule: 3 with its length, then 6 with the inversions that are left; or it is taken.
 abbrev pub turn_verdict : KeySchedule → ℕ → ℕ → Option (ℕ × ℕ)
 turn_verdict s n tally = cond (n == 16) (cond (nat_le (tally + schedule_rounds s) cap) None (Some (6, cap - tally))) (Some (3, n))
-
-abbrev pub Admitted : {X : Type 0} → KeySchedule → ℕ → ℕ → Result X Refusal → Type 0
-Admitted s n tally r = MatchResult r (λ _. turn_verdict s n tally ≡ None) (λ e. turn_verdict s n tally ≡ Some (numbers e))

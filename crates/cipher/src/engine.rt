@@ -80,7 +80,8 @@ impl<R: Route> Engine<R> {
             return Err(Refusal::NoKey);
         };
         let length = block.len() as u64;
-        let Some(block) = block.as_mut_array::<16>() else {
+        let whole = block.as_mut_array::<16>();
+        let Some(block) = whole else {
             return Err(Refusal::BlockLength(length));
         };
         // Whatever is refused is refused here, before block and route are touched.

@@ -67,6 +67,7 @@ pub(crate) fn expanded<R: Route>(route: &mut R, key: &[u8]) -> [Word; 60]
 {
     let nk = key.len() / 4;
     let mut words = key_first(key);
+    // By index: each word is made of two that stand before it in the same array.
     for i in nk..4 * (nk + 7) {
         let temp = prepared(route, words[i - 1], nk, i);
         words[i] = add(words[i - nk], temp);

@@ -43,7 +43,7 @@ pub(crate) trait Direction {
 }
 
 /// CIPHER: round key 0, the rounds in order, and a last round without MIXCOLUMNS.
-pub(crate) enum Cipher {}
+pub(crate) struct Cipher;
 
 impl Direction for Cipher {
     ghost turned = { cipher };
@@ -62,7 +62,7 @@ impl Direction for Cipher {
 }
 
 /// INVCIPHER: the last round key, the rounds backwards, and a last round without INVMIXCOLUMNS.
-pub(crate) enum InvCipher {}
+pub(crate) struct InvCipher;
 
 impl Direction for InvCipher {
     ghost turned = { inv_cipher };

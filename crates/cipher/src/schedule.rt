@@ -9,6 +9,7 @@ pub mod expand;
 /// The expanded schedule of a key: 4·(rounds + 1) words, the first of which are the key.
 #[derive(Drop)]
 pub struct KeySchedule {
+    // Room for the longest schedule: the library has no heap.
     words: [Word; 60],
     key_words: usize,
     ghost sized: { key_length (4 * key_words) ≡ true },

@@ -37,7 +37,7 @@ pub(crate) trait Substitution {
 }
 
 /// SBOX: the inverse, and then the affine map, times 1F and plus 63.
-pub(crate) enum SBox {}
+pub(crate) struct SBox;
 
 impl Substitution for SBox {
     ghost at = { s_box };
@@ -49,7 +49,7 @@ impl Substitution for SBox {
 }
 
 /// INVSBOX: the inverse of the affine map, times 4A and plus 05, and then the inverse.
-pub(crate) enum InvSBox {}
+pub(crate) struct InvSBox;
 
 impl Substitution for InvSBox {
     ghost at = { inv_s_box };

@@ -1,4 +1,5 @@
 //! Engines on every route, held against published values.
+use crate::everywhere::on_every_route;
 use cipher::{Engine, KeySchedule, Word};
 use routes::{AnyRoute, Refusal, Route, RouteName};
 
@@ -13,76 +14,46 @@ fn keyed(name: RouteName, key: &[u8]) -> Result<Engine<AnyRoute>, Refusal> {
 fn expands_on(name: RouteName, key: &[u8], words: &[Word]) -> Result<bool, Refusal> {
     let mut route = AnyRoute::new(name, 0)?;
     let schedule = KeySchedule::expand(&mut route, key)?;
-    for (i, word) in words.iter().enumerate() {
-        if schedule.word(i) != Some(*word) {
-            return Ok(false);
-        }
-    }
-    Ok(schedule.word(words.len()).is_none())
+    Ok((0..=words.len()).all(|i| schedule.word(i) == words.get(i).copied()))
 }
 
-/// Whether a block encrypts under a key on a route to this cipher, and the cipher decrypts to the block.
-fn turns_on(
+/// Whether a call of an engine under a key on a route turns a block into another.
+fn turns_on<F: FnOnce(&mut Engine<AnyRoute>, &mut [u8]) -> Result<(), Refusal>>(
     name: RouteName,
     key: &[u8],
-    from: [u8; 16],
-    to: [u8; 16],
-    back: bool,
-) -> Result<bool, Refusal> {
+    from: &[u8; 16],
+    to: &[u8; 16],
+    turn: F,
+) -> Result<bool, Refusal>
+    requires { F.IsAlwaysCallable turn }
+{
     let mut engine = keyed(name, key)?;
-    let mut block = from;
-    if back {
-        engine.decrypt(&mut block)?;
-    } else {
-        engine.encrypt(&mut block)?;
-    }
-    Ok(block == to)
+    let mut block = *from;
+    turn(&mut engine, &mut block)?;
+    Ok(block == *to)
 }
 
 /// Whether the schedule of a key is these words on every route.
 pub fn expands(key: &[u8], words: &[Word]) -> bool {
-    for name in RouteName::ALL {
-        if expands_on(name, key, words) != Ok(true) {
-            return false;
-        }
-    }
-    true
+    on_every_route(|name| expands_on(name, key, words)) == Ok(true)
 }
 
 /// Whether a block encrypts to this cipher on every route.
-pub fn encrypts(key: &[u8], block: [u8; 16], cipher: [u8; 16]) -> bool {
-    for name in RouteName::ALL {
-        if turns_on(name, key, block, cipher, false) != Ok(true) {
-            return false;
-        }
-    }
-    true
+pub fn encrypts(key: &[u8], block: &[u8; 16], cipher: &[u8; 16]) -> bool {
+    on_every_route(|name| turns_on(name, key, block, cipher, Engine::encrypt)) == Ok(true)
 }
 
 /// Whether a cipher decrypts to this block on every route.
-pub fn decrypts(key: &[u8], cipher: [u8; 16], block: [u8; 16]) -> bool {
-    for name in RouteName::ALL {
-        if turns_on(name, key, cipher, block, true) != Ok(true) {
-            return false;
-        }
-    }
-    true
+pub fn decrypts(key: &[u8], cipher: &[u8; 16], block: &[u8; 16]) -> bool {
+    on_every_route(|name| turns_on(name, key, cipher, block, Engine::decrypt)) == Ok(true)
 }
 
-/// Whether a key is refused on a route with these two numbers.
-fn refused_on(name: RouteName, key: &[u8], number: u64, value: u64) -> bool {
-    match keyed(name, key) {
-        Ok(_) => false,
-        Err(refusal) => refusal.number() == number && refusal.value() == value,
-    }
+/// Whether a key is refused on a route by its length.
+fn refused_on(name: RouteName, key: &[u8]) -> bool {
+    keyed(name, key).err() == Some(Refusal::KeyLength(key.len() as u64))
 }
 
-/// Whether keys of 0 and 15 bytes are refused on every route, 1 with their length.
+/// Whether keys of 0 and 15 bytes are refused on every route, each with its length.
 pub fn short_keys_are_refused() -> bool {
-    for name in RouteName::ALL {
-        if !refused_on(name, &[], 1, 0) || !refused_on(name, &[0; 15], 1, 15) {
-            return false;
-        }
-    }
-    true
+    RouteName::ALL.iter().all(|name| refused_on(*name, &[]) && refused_on(*name, &[0; 15]))
 }

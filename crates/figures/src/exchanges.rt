@@ -1,5 +1,6 @@
 //! Exchanges of two ends, held against published values: the transmitter on each route in turn, the gateway on the bit tower.
-use routes::{AnyRoute, Route, RouteName};
+use crate::everywhere::on_every_route;
+use routes::{AnyRoute, Refusal, RouteName};
 use sessions::{BothEnds, COUNTERS, End, ExchangeError, SessionAnswer, SessionCall, exchange};
 use std::alloc::{AllocError, Global};
 
@@ -31,12 +32,19 @@ fn exchanged(
     )
 }
 
+/// Whether something holds of both ends of an exchange that was carried out.
+fn of_both<F: Fn(&End) -> bool>(ran: Result<BothEnds, ExchangeError>, holds: F) -> bool
+    requires { F.IsAlwaysCallable holds }
+{
+    match ran {
+        Ok(ends) => holds(&ends.transmitter) && holds(&ends.gateway),
+        Err(_) => false,
+    }
+}
+
 /// Whether the first call of an end left this run.
 fn left(end: &End, run: &[u8]) -> bool {
-    match end.calls.as_slice().first() {
-        Some(SessionCall::Cover(bytes)) => bytes.as_slice() == run,
-        _ => false,
-    }
+    matches!(end.calls.first(), Some(SessionCall::Cover(bytes)) if bytes.as_slice() == run)
 }
 
 /// Whether a run is covered to another on a route, and comes back at the gateway.
@@ -47,8 +55,8 @@ fn covers_on(
     from: &[u8],
     to: &[u8],
 ) -> Result<bool, AllocError> {
-    let mut calls = Vec::new(heap);
-    calls.push(SessionCall::Cover(Vec::from_slice(heap, from)?))?;
+    let run = Vec::from_slice(heap, from)?;
+    let calls = vec![in heap; SessionCall::Cover(run)]?;
     match exchanged(heap, name, key, FIRST, calls) {
         Ok(ends) => Ok(left(&ends.transmitter, to) && left(&ends.gateway, from)),
         Err(_) => Ok(false),
@@ -57,70 +65,50 @@ fn covers_on(
 
 /// Whether a run is covered to another on every route, and comes back.
 pub fn covers(heap: Global, key: &[u8], from: &[u8], to: &[u8]) -> Result<bool, AllocError> {
-    for name in RouteName::ALL {
-        if !covers_on(heap, name, key, from, to)? {
-            return Ok(false);
-        }
-    }
-    Ok(true)
+    on_every_route(|name| covers_on(heap, name, key, from, to))
 }
 
-/// Whether an end answered that 4,096 numbers were used, and then refused a run, 4 with 65,537.
+/// Whether an end answered that 4,096 numbers were used, and then refused a run of 65,537 bytes.
 fn took_the_longest(end: &End) -> bool {
-    match (
-        end.answers.as_slice().first(),
-        end.answers.as_slice().last(),
-    ) {
-        (Some(SessionAnswer::Used(0, 4096)), Some(SessionAnswer::Refused(refusal))) => {
-            refusal.number() == 4 && refusal.value() == 65537
-        }
-        _ => false,
-    }
+    end.answers.as_slice()
+        == [
+            SessionAnswer::Used(0, 4096),
+            SessionAnswer::Refused(Refusal::RunLength(65537)),
+        ]
+        .as_slice()
 }
 
-/// Whether a run of 65,536 bytes takes 4,096 numbers on every route, and one of 65,537 is refused.
+/// Whether a run of 65,536 bytes takes 4,096 numbers on a route, and one of 65,537 is refused.
+fn longest_on(heap: Global, name: RouteName) -> Result<bool, AllocError> {
+    let longest = vec![in heap; 0; 65536]?;
+    let longer = vec![in heap; 0; 65537]?;
+    let calls = vec![in heap; SessionCall::Cover(longest), SessionCall::Cover(longer)]?;
+    Ok(of_both(exchanged(heap, name, &[0; 16], 0, calls), took_the_longest))
+}
+
+/// Whether that holds on every route.
 pub fn longest_runs(heap: Global) -> Result<bool, AllocError> {
-    for name in RouteName::ALL {
-        let mut calls = Vec::new(heap);
-        calls.push(SessionCall::Cover(Vec::from_elem(heap, 0, 65536)?))?;
-        calls.push(SessionCall::Cover(Vec::from_elem(heap, 0, 65537)?))?;
-        let same = match exchanged(heap, name, &[0; 16], 0, calls) {
-            Ok(ends) => took_the_longest(&ends.transmitter) && took_the_longest(&ends.gateway),
-            Err(_) => false,
-        };
-        if !same {
-            return Ok(false);
-        }
-    }
-    Ok(true)
+    on_every_route(|name| longest_on(heap, name))
 }
 
 /// Whether an end answered that nothing remains.
 fn has_nothing_left(end: &End) -> bool {
-    match end.answers.as_slice().first() {
-        Some(SessionAnswer::Left(0)) => true,
-        _ => false,
-    }
+    end.answers.first() == Some(&SessionAnswer::Left(0))
 }
 
-/// Whether a session opens at 2^32 on every route with nothing remaining, and is refused at 2^32 + 1, 8 with that number.
+/// Whether a session opens at 2^32 on a route with nothing remaining, and is refused at 2^32 + 1 with that number.
+fn last_on(heap: Global, name: RouteName) -> Result<bool, AllocError> {
+    let calls = vec![in heap; SessionCall::Remaining]?;
+    let at_the_end = exchanged(heap, name, &[0; 16], COUNTERS, calls);
+    let past_it = exchanged(heap, name, &[0; 16], COUNTERS + 1, Vec::new(heap));
+    let refusal = Refusal::OpeningNumber(COUNTERS + 1);
+    Ok(
+        of_both(at_the_end, has_nothing_left)
+            && past_it.err() == Some(ExchangeError::NotSetUp(refusal)),
+    )
+}
+
+/// Whether that holds on every route.
 pub fn last_openings(heap: Global) -> Result<bool, AllocError> {
-    for name in RouteName::ALL {
-        let mut calls = Vec::new(heap);
-        calls.push(SessionCall::Remaining)?;
-        let at_the_end = match exchanged(heap, name, &[0; 16], COUNTERS, calls) {
-            Ok(ends) => has_nothing_left(&ends.transmitter) && has_nothing_left(&ends.gateway),
-            Err(_) => false,
-        };
-        let past_it = match exchanged(heap, name, &[0; 16], COUNTERS + 1, Vec::new(heap)) {
-            Err(ExchangeError::NotSetUp(refusal)) => {
-                refusal.number() == 8 && refusal.value() == COUNTERS + 1
-            }
-            _ => false,
-        };
-        if !(at_the_end && past_it) {
-            return Ok(false);
-        }
-    }
-    Ok(true)
+    on_every_route(|name| last_on(heap, name))
 }
