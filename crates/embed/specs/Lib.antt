@@ -1,4 +1,3 @@
 pub mod Covers
 pub mod Inversions
-pub mod Numbered
 pub mod Replies

@@ -2,12 +2,12 @@
 ghost use Rattle.std.specs.Prelude.{◌≡◌, Some};
 ghost use Rattle.sessions.specs.Exchanges.{set_up_with};
 ghost use Rattle.embed.specs.Covers.{CoverAnswered};
-ghost use Rattle.embed.specs.Numbered.{route_at};
+ghost use Rattle.routes.specs.Names.{route_at};
 
 use crate::cover::Cover;
 use crate::on_route::on_named;
 use crate::reply::Reply;
-use crate::route_number::route_numbered;
+use routes::RouteName;
 use sessions::Agreement;
 
 /// Covers or uncovers a run in place on the route of a number, in a session that opens at a counter number, and gives the status that it leaves in
@@ -31,9 +31,9 @@ pub extern "C" fn janvlozer_cover(
         at: Some(number),
         start,
     };
-    let left = match route_numbered(route) {
-        Some(name) => on_named(name, Cover { agreement }, run),
-        None => Reply::unknown_route(route, start),
+    let left = match RouteName::try_from(route) {
+        Ok(name) => on_named(name, Cover { agreement }, run),
+        Err(_) => Reply::unknown_route(route, start),
     };
     *reply = left;
     left.status

@@ -9,7 +9,6 @@ mod invert;
 mod invert_call;
 mod on_route;
 mod reply;
-mod route_number;
 
 pub use cover_call::janvlozer_cover;
 pub use invert_call::janvlozer_invert;
