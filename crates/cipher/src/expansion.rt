@@ -20,11 +20,11 @@ fn rot_word(a: Word) -> Word
 fn round_constant(j: usize) -> Word
     ensures { result ≡ word_bytes (rcon j) }
 {
-    let mut x = Byte::new(1);
+    let mut x = Byte::from(1);
     for _k in 1..j {
-        x = Byte::new(2).product(x);
+        x = Byte::from(2).product(x);
     }
-    [x.to_u8(), 0, 0, 0]
+    [u8::from(x), 0, 0, 0]
 }
 
 /// What becomes of word i - 1 before word i - nk is added to it.

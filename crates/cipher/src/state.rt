@@ -82,7 +82,7 @@ pub(crate) fn add_round_key(s: State, k: State) -> State
 fn times<const P: u8>(a: Byte) -> Byte
     ensures { result ≡ byte P • a }
 {
-    a.product(Byte::new(P))
+    a.product(Byte::from(P))
 }
 
 /// p·a + q·b + r·c + s·d.
@@ -104,15 +104,15 @@ fn row<const P: u8, const Q: u8, const R: u8, const S: u8>(
 fn mixed<const P: u8, const Q: u8, const R: u8, const S: u8>(w: Word) -> Word
     ensures { result ≡ word_bytes (by_matrix (byte P) (byte Q) (byte R) (byte S) (word w)) }
 {
-    let a = Byte::new(w[0]);
-    let b = Byte::new(w[1]);
-    let c = Byte::new(w[2]);
-    let d = Byte::new(w[3]);
+    let a = Byte::from(w[0]);
+    let b = Byte::from(w[1]);
+    let c = Byte::from(w[2]);
+    let d = Byte::from(w[3]);
     [
-        row::<P, Q, R, S>(a, b, c, d).to_u8(),
-        row::<P, Q, R, S>(b, c, d, a).to_u8(),
-        row::<P, Q, R, S>(c, d, a, b).to_u8(),
-        row::<P, Q, R, S>(d, a, b, c).to_u8(),
+        u8::from(row::<P, Q, R, S>(a, b, c, d)),
+        u8::from(row::<P, Q, R, S>(b, c, d, a)),
+        u8::from(row::<P, Q, R, S>(c, d, a, b)),
+        u8::from(row::<P, Q, R, S>(d, a, b, c)),
     ]
 }
 

@@ -10,18 +10,18 @@ x_to n = power byte_product (byte 1) n (byte 2)
 
 pub loop-k-init : goal.loop-k-init
 unfolding power
-loop-k-init c = (omega arith, c.new-x.ensures)
+loop-k-init c = (omega arith, c.from-x.ensures)
 
 pub loop-k-preserved : goal.loop-k-preserved
 unfolding power x_to
 loop-k-preserved c =
     let e : suc (c.loop-k._k - 1) ≡ c.loop-k._k + 1 - 1 = omega arith in (
       omega arith,
-      c.product-x.ensures ∙ ap₂ byte_product c.new.ensures c.loop-k.invariant.1 ∙ ap x_to e,
+      c.product-x.ensures ∙ ap₂ byte_product c.from.ensures c.loop-k.invariant.1 ∙ ap x_to e,
     )
 
 pub returns : goal.returns
 unfolding word_bytes rcon byte x_to
 returns c =
     let e : c.loop-k._k - 1 ≡ c.args.j - 1 = omega arith in
-    ap (λ n. n ∷ 0 ∷ 0 ∷ 0 ∷ []) (c.to_u8.ensures ∙ ap (λ b. b.value) (c.loop-k.invariant.1 ∙ ap x_to e))
+    ap (λ n. n ∷ 0 ∷ 0 ∷ 0 ∷ []) (c.from-2.ensures ∙ ap (λ b. b.value) (c.loop-k.invariant.1 ∙ ap x_to e))

@@ -13,12 +13,12 @@ row-value p q r s e f g h = λ i. (byte_row p q r s (e i) (f i) (g i) (h i)).val
 pub returns : goal.returns
 unfolding word_at word_bytes by_matrix
 returns g c =
-    let a = c.new-a.ensures in
-    let b = c.new-b.ensures in
-    let x = c.new-c.ensures in
-    let d = c.new-d.ensures in
+    let a = c.from-a.ensures in
+    let b = c.from-b.ensures in
+    let x = c.from-c.ensures in
+    let d = c.from-d.ensures in
     four
-    (c.to_u8.ensures ∙ ap (λ y. y.value) c.row.ensures ∙ row-value (byte g.row.P) (byte g.row.Q) (byte g.row.R) (byte g.row.S) a b x d)
-    (c.to_u8-2.ensures ∙ ap (λ y. y.value) c.row-2.ensures ∙ row-value (byte g.row.P) (byte g.row.Q) (byte g.row.R) (byte g.row.S) b x d a)
-    (c.to_u8-3.ensures ∙ ap (λ y. y.value) c.row-3.ensures ∙ row-value (byte g.row.P) (byte g.row.Q) (byte g.row.R) (byte g.row.S) x d a b)
-    (c.to_u8-4.ensures ∙ ap (λ y. y.value) c.row-4.ensures ∙ row-value (byte g.row.P) (byte g.row.Q) (byte g.row.R) (byte g.row.S) d a b x)
+    (c.from.ensures ∙ ap (λ y. y.value) c.row.ensures ∙ row-value (byte g.row.P) (byte g.row.Q) (byte g.row.R) (byte g.row.S) a b x d)
+    (c.from-2.ensures ∙ ap (λ y. y.value) c.row-2.ensures ∙ row-value (byte g.row.P) (byte g.row.Q) (byte g.row.R) (byte g.row.S) b x d a)
+    (c.from-3.ensures ∙ ap (λ y. y.value) c.row-3.ensures ∙ row-value (byte g.row.P) (byte g.row.Q) (byte g.row.R) (byte g.row.S) x d a b)
+    (c.from-4.ensures ∙ ap (λ y. y.value) c.row-4.ensures ∙ row-value (byte g.row.P) (byte g.row.Q) (byte g.row.R) (byte g.row.S) d a b x)
