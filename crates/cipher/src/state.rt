@@ -38,10 +38,15 @@ fn plain(w: Word) -> Word
 pub(crate) fn to_bytes(s: State) -> [u8; 16]
     ensures { result ≡ state_bytes (columns_state s) }
 {
-    let columns = s.map(plain);
-    let mut bytes = [0; 16];
-    bytes.copy_from_slice(columns.as_flattened());
-    bytes
+    let a = plain(s[0]);
+    let b = plain(s[1]);
+    let c = plain(s[2]);
+    let d = plain(s[3]);
+    // Written out: a copy of `as_flattened` takes 26 instructions more for a byte of a run.
+    [
+        a[0], a[1], a[2], a[3], b[0], b[1], b[2], b[3], c[0], c[1], c[2], c[3], d[0], d[1], d[2],
+        d[3],
+    ]
 }
 
 /// SHIFTROWS: row r moves r places to the left.
