@@ -2,7 +2,7 @@
 use Rattle.std.proofs.Common.{◌≡◌, ℕ, zero, suc, ◌+◌, ◌-◌, ◌*◌, ◌/◌, ◌%◌, ◌<◌, ◌≤◌, Bool, true, false, cond, ◌&&◌, ◌||◌, eqb, ltb, List, [], ◌∷◌, ◌++◌, length, get_or, take, drop, set, sym, refl, ap, ◌∙◌, subst, ap₂, inl, inr, le_refl, not-suc-le-zero, add-zero, add-suc, add-one, arith, lit≤, take-add}
 use Rattle.std.proofs.Math.Seq.{take-length}
 use Rattle.std.specs.Simd.{first_chunks}
-use Rattle.std.proofs.lemmas.List.{append-nil, append_assoc, length-map, length_push, length-take-le, length-drop, length-replicate, get_or-take, get_or-map, take_more_set, drop_more, drop-drop, drop-set-lt, drop-replicate, map_push}
+use Rattle.std.proofs.lemmas.List.{length-map, length_push, length-take-le, length-drop, length-replicate, get_or-take, get_or-map, take_more_set, drop_more, drop-drop, drop-set-lt, drop-replicate, map_push}
 use Rattle.std.proofs.lemmas.Bool.{eqb-true, or_cases}
 use Rattle.fields.specs.Bytes.{byte}
 use Rattle.fields.specs.WordLaws.{byte-value, byte_of-value}

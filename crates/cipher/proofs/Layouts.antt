@@ -1,13 +1,11 @@
 -- What arrays of bytes hold once functions have made them. Assumes nothing.
-use Rattle.std.proofs.Common.{◌≡◌, ℕ, ◌<◌, List, [], ◌∷◌, length, get_or, refl, ap, ◌∙◌, lit<, arith}
-use Rattle.std.specs.List.{flat_map}
+use Rattle.std.proofs.Common.{◌≡◌, ℕ, ◌<◌, List, [], ◌∷◌, get_or, ap, ◌∙◌, lit<}
 use Rattle.fields.specs.Bytes.{byte}
 use Rattle.fields.specs.declared.byte.Byte.{Byte}
 use Rattle.fields.specs.WordLaws.{byte_of-value}
-use Rattle.cipher.specs.Fips197.{Word, word, word_at, word_of, state_of, word_bytes, state, state_bytes, each_byte, each_column}
+use Rattle.cipher.specs.Fips197.{Word, word, word_at, word_of, state_of, word_bytes, state, each_byte, each_column}
 use Rattle.cipher.specs.Layout.{columns_state}
 use Rattle.cipher.proofs.Expansions.{word_again}
-use Rattle.cipher.proofs.Lists.{four}
 
 -- Four arrays that hold the bytes of words hold the state of these.
 pub columns_of : (a b c d : List ℕ) (u v w x : Word) → a ≡ word_bytes u → b ≡ word_bytes v → c ≡ word_bytes w → d ≡ word_bytes x → columns_state (a ∷ b ∷ c ∷ d ∷ []) ≡ state_of u v w x
@@ -29,17 +27,3 @@ state_of_mapped f before after h = λ i. state_of (at 0 (lit< tt) i) (at 1 (lit<
   where
     at : (k : ℕ) → k < 4 → word (get_or after k []) ≡ f (word (get_or before k []))
     at k l = ap word (h k l) ∙ word_again (f (word (get_or before k [])))
-
--- A list of four is what stands at its places.
-four_of : (xs : List (List ℕ)) → length xs ≡ 4 → xs ≡ get_or xs 0 [] ∷ get_or xs 1 [] ∷ get_or xs 2 [] ∷ get_or xs 3 [] ∷ []
-four_of [] e = absurd (omega arith)
-four_of (a ∷ []) e = absurd (omega arith)
-four_of (a ∷ b ∷ []) e = absurd (omega arith)
-four_of (a ∷ b ∷ c ∷ []) e = absurd (omega arith)
-four_of (a ∷ b ∷ c ∷ d ∷ []) e = refl
-four_of (a ∷ b ∷ c ∷ d ∷ x ∷ xs) e = absurd (omega arith)
-
--- Four arrays of bytes in a row, each the bytes of the word of the array before, are the bytes of the state before.
-pub flat_words : (before after : List (List ℕ)) → length after ≡ 4 → ((i : ℕ) → i < 4 → get_or after i [] ≡ word_bytes (word (get_or before i []))) → flat_map (λ x. x) after ≡ state_bytes (columns_state before)
-unfolding columns_state state_bytes word_bytes
-flat_words before after e h = ap (flat_map (λ x. x)) (four_of after e ∙ four (h 0 (lit< tt)) (h 1 (lit< tt)) (h 2 (lit< tt)) (h 3 (lit< tt)))

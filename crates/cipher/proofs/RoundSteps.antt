@@ -1,5 +1,5 @@
 -- How the rounds go on. Assumes nothing.
-use Rattle.std.proofs.Common.{◌≡◌, ℕ, zero, suc, ◌+◌, ◌-◌, ◌<◌, ◌≤◌, List, [], ◌∷◌, ◌++◌, length, get_or, take, drop, sym, ap, ◌∙◌, le_refl, add-one, arith}
+use Rattle.std.proofs.Common.{◌≡◌, ℕ, ◌+◌, ◌-◌, ◌<◌, ◌≤◌, List, [], ◌∷◌, ◌++◌, length, get_or, take, drop, sym, ap, ◌∙◌, le_refl, add-one, arith}
 use Rattle.std.proofs.Math.Seq.{take-append_seam, get_or-append_seam}
 use Rattle.std.proofs.lemmas.List.{take-take, get_or-take, get_or-drop, length-append, length-take, length-take-le, length-drop}
 use Rattle.cipher.specs.Fips197.{Word, State, rounds, inv_rounds, add_round_key, mix_columns, shift_rows, sub_bytes, round_key, inv_mix_columns, inv_shift_rows, inv_sub_bytes}

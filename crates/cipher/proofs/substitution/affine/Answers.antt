@@ -1,6 +1,4 @@
-use Rattle.std.proofs.Common.{sym, ap, ◌∙◌, arith}
 use Rattle.fields.specs.WordLaws.{byte-value}
-use Rattle.cipher.specs.Layout.{affine_map}
 use Rattle.cipher.proofs.substitution.affine.Goals as goal
 
 pub returns : goal.returns

@@ -1,5 +1,5 @@
-use Rattle.std.proofs.Common.{◌≡◌, ◌-◌, length, sym, refl, ap, ap₂, ◌∙◌, arith}
-use Rattle.cipher.specs.Fips197.{add_round_key, mix_columns, shift_rows, sub_bytes, rounds, round_key, round_count, cipher}
+use Rattle.std.proofs.Common.{◌≡◌, ◌-◌, sym, refl, ap, ap₂, ◌∙◌, arith}
+use Rattle.cipher.specs.Fips197.{add_round_key, mix_columns, shift_rows, sub_bytes, rounds, cipher}
 use Rattle.cipher.specs.Layout.{columns_state}
 use Rattle.cipher.specs.Schedules.{schedule_words, schedule_rounds}
 use Rattle.cipher.proofs.RoundSteps.{round_step, inner_key, inner-length, last_key}

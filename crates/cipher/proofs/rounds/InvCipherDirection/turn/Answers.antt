@@ -1,4 +1,4 @@
-use Rattle.std.proofs.Common.{◌≡◌, ◌-◌, [], length, get_or, sym, ap, ap₂, ◌∙◌, arith}
+use Rattle.std.proofs.Common.{[], length, get_or, sym, ap, ap₂, ◌∙◌, arith}
 use Rattle.cipher.specs.Fips197.{add_round_key, inv_mix_columns, inv_shift_rows, inv_sub_bytes, inv_rounds, inv_cipher}
 use Rattle.cipher.specs.Layout.{columns_state}
 use Rattle.cipher.specs.Schedules.{schedule_words, schedule_rounds}
