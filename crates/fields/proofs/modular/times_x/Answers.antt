@@ -1,6 +1,6 @@
 use Rattle.std.proofs.Common.{◌*◌, ◌%◌, ap, ◌∙◌}
 use lib.Bits.{bit_xor}
-use Rattle.fields.proofs.Steps.{highest_lt, wrapped}
+use Rattle.fields.proofs.Steps.{wrapped}
 use Rattle.fields.proofs.modular.times_x.Goals as goal
 
 pub returns : goal.returns

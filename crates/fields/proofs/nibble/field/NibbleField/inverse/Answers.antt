@@ -1,10 +1,7 @@
-use mathlib.Core.Bool.{false≢true}
-use Rattle.std.proofs.Common.{◌≡◌, ◌<◌, sym, ap, ◌∙◌, ⊎_elim, arith}
-use Rattle.fields.specs.Nibbles.{nibble, nibble_product}
+use Rattle.std.proofs.Common.{◌<◌, sym, ◌∙◌, arith}
 use Rattle.fields.specs.FieldFacts.{inverse_unique}
 use Rattle.fields.specs.WordLaws.{nibble_laws, none_fits}
 use Rattle.fields.proofs.nibble.field.NibbleField.inverse.Goals as goal
-use Rattle.std.proofs.lemmas.Bool.{cases_eq}
 
 pub returns-then-eq : goal.returns-then-eq
 returns-then-eq c =
