@@ -1,4 +1,5 @@
 pub mod Deliveries
 pub mod Desks
+pub mod Directions
 pub mod Lines
 pub mod Words

@@ -34,6 +34,15 @@ spelt [] = Some []
 spelt (h ∷ []) = None
 spelt (h ∷ l ∷ text) = before (joined (digit_of h) (digit_of l)) (spelt text)
 
+-- The first n bytes of a list are written as the first 2n digits of a text.
+abbrev pub SpellsFirst : ℕ → List ℕ → List ℕ → Type 0
+SpellsFirst n text bytes =
+    (length bytes ≡ n) × ((i : ℕ) → i < n → joined (digit_of (slice_index text (2 * i))) (digit_of (slice_index text (2 * i + 1))) ≡ Some (slice_index bytes i))
+
+-- A text spells bytes: two digits for each, and nothing left over.
+abbrev pub Spells : List ℕ → List ℕ → Type 0
+Spells text bytes = SpellsFirst (length bytes) text bytes × (length text ≡ 2 * length bytes)
+
 -- A run of bytes as a word: a dash for no bytes, or at least one byte.
 abbrev pub run_word : List ℕ → Option (List ℕ)
 run_word text = cond (length text == 0) None (cond (length text == 1 && slice_index text 0 == 45) (Some []) (spelt text))

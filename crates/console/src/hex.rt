@@ -1,7 +1,7 @@
 //! Bytes as hexadecimal digits, two a byte.
-ghost use Rattle.std.specs.Prelude.{◌≡◌, IfOk, vec_items};
+ghost use Rattle.std.specs.Prelude.{◌≡◌, IfOk, IfSome, vec_items};
 ghost use Rattle.std.specs.Option.{option_map};
-ghost use Rattle.console.specs.Words.{digit_of, joined, byte_of, spelt, run_word};
+ghost use Rattle.console.specs.Words.{digit_of, joined, byte_of, spelt, Spells, run_word};
 
 use std::alloc::{AllocError, Global};
 use std::fmt;
@@ -22,36 +22,34 @@ fn digit(character: u8) -> Option<u8>
 fn pair(high: u8, low: u8) -> Option<u8>
     ensures { result ≡ joined (digit_of high) (digit_of low) }
 {
-    match (digit(high), digit(low)) {
-        (Some(high), Some(low)) => Some(high * 16 + low),
-        _ => None,
-    }
+    Some(digit(high)? * 16 + digit(low)?)
 }
 
 /// The byte that is written as exactly two digits, or none.
 pub fn byte(text: &str) -> Option<u8>
     ensures { result ≡ byte_of text.now }
 {
-    let characters = text.as_bytes();
-    if characters.len() != 2 {
-        return None;
+    match *text.as_bytes() {
+        [high, low] => pair(high, low),
+        _ => None,
     }
-    pair(characters[0], characters[1])
 }
 
 /// The bytes that are written as two digits each, or none where a character is no digit or one digit is left over.
-fn bytes(heap: Global, characters: &[u8]) -> Result<Option<Vec<u8>>, AllocError>
-    ensures { IfOk result (λ o. option_map vec_items o ≡ spelt characters.now) }
+pub fn bytes(heap: Global, text: &str) -> Result<Option<Vec<u8>>, AllocError>
+    ensures spelt { IfOk result (λ o. option_map vec_items o ≡ spelt text.now) }
+    ensures spells { IfOk result (λ o. IfSome o (λ v. Spells text.now v.items)) }
 {
-    let mut all = Vec::new(heap);
-    for i in 0..characters.len() / 2 {
-        match pair(characters[2 * i], characters[2 * i + 1]) {
-            Some(byte) => all.push(byte)?,
-            None => return Ok(None),
-        }
-    }
+    let characters = text.as_bytes();
     if characters.len() % 2 != 0 {
         return Ok(None);
+    }
+    let mut all = Vec::new(heap);
+    for digits in characters.chunks_exact(2) {
+        let Some(byte) = pair(digits[0], digits[1]) else {
+            return Ok(None);
+        };
+        all.push(byte)?;
     }
     Ok(Some(all))
 }
@@ -60,14 +58,11 @@ fn bytes(heap: Global, characters: &[u8]) -> Result<Option<Vec<u8>>, AllocError>
 pub fn run(heap: Global, text: &str) -> Result<Option<Vec<u8>>, AllocError>
     ensures { IfOk result (λ o. option_map vec_items o ≡ run_word text.now) }
 {
-    let characters = text.as_bytes();
-    if characters.len() == 0 {
-        return Ok(None);
+    match text {
+        "" => Ok(None),
+        "-" => Ok(Some(Vec::new(heap))),
+        _ => bytes(heap, text),
     }
-    if characters.len() == 1 && characters[0] == b'-' {
-        return Ok(Some(Vec::new(heap)));
-    }
-    bytes(heap, characters)
 }
 
 /// Bytes to be shown as digits in lower case, or as a dash where there are none.

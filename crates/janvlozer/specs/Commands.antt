@@ -1,11 +1,12 @@
 -- What the words of the command line ask for. Assumes nothing.
-use Rattle.std.specs.Prelude.{◌≡◌, ℕ, true, false, List, [], ◌∷◌, Some, None, Ok, Err, string_bytes, codes, Option, Result, String, ◌≢◌}
+use Rattle.std.specs.Prelude.{◌≡◌, ℕ, List, [], ◌∷◌, Some, None, Ok, Err, string_bytes, codes, Option, Result, String, ◌≢◌}
 use Rattle.std.specs.Option.{ok_or, option_map}
 use Rattle.std.specs.declared.alloc.Global.{Global}
 use Rattle.routes.specs.Names.{Named}
 use Rattle.routes.specs.declared.name.RouteName.{RouteName}
 use Rattle.routes.specs.declared.name.RouteName.TheVariants.{Table}
-use Rattle.janvlozer.specs.Words.{byte_of}
+use Rattle.console.specs.Words.{byte_of}
+use Rattle.console.specs.declared.direction.Direction.TheVariants.{Encrypt, Decrypt}
 use Rattle.janvlozer.specs.declared.command.Command.{Command}
 use Rattle.janvlozer.specs.declared.command.Command.TheVariants.{Demonstration, Invert, Routes, Turn, Help}
 use Rattle.janvlozer.specs.declared.command.Misuse.{Misuse}
@@ -25,7 +26,7 @@ After word text r =
 -- A word that turns a block on a route: encrypt or decrypt.
 abbrev pub Turns : List ℕ → RouteName → Result Command Misuse → Type 0
 Turns word route r =
-    (word ≡ codes "encrypt" → r ≡ Ok (Turn false route)) × (word ≡ codes "decrypt" → r ≡ Ok (Turn true route))
+    (word ≡ codes "encrypt" → r ≡ Ok (Turn Encrypt route)) × (word ≡ codes "decrypt" → r ≡ Ok (Turn Decrypt route))
     × ((word ≢ codes "encrypt") → (word ≢ codes "decrypt") → r ≡ Err Words)
 
 -- The same where the route is named: after --route, by the name of a route.

@@ -1,3 +1,1 @@
 pub mod Commands
-pub mod Trails
-pub mod Words

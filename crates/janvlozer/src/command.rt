@@ -1,7 +1,7 @@
 //! What the words of the command line ask for.
 ghost use Rattle.janvlozer.specs.Commands.{Alone, After, Turns, TurnsOn, Asked};
 
-use crate::hex;
+use console::{Direction, byte};
 use routes::RouteName;
 use std::error::Error;
 use std::fmt;
@@ -15,8 +15,11 @@ pub enum Command {
     Invert(u8),
     /// Say what the five routes do, and compare them at every byte.
     Routes,
-    /// Encrypt, or decrypt where `back`, a block on the named route. Key and block are the second and third word.
-    Turn { back: bool, route: RouteName },
+    /// Encrypt or decrypt a block on the named route. Key and block are the second and third word.
+    Turn {
+        direction: Direction,
+        route: RouteName,
+    },
     /// Say what the program can be asked.
     Help,
 }
@@ -37,35 +40,29 @@ pub enum Misuse {
 
 impl fmt::Display for Misuse {
     fn fmt<W: fmt::Write>(&self, f: &mut fmt::Formatter<W>) -> fmt::Result {
-        match self {
-            Misuse::Words => write!(
-                f,
-                "expected invert BB, routes, encrypt KEY BLOCK, decrypt KEY BLOCK, help, or no words"
-            ),
-            Misuse::Digits => write!(
-                f,
-                "expected exactly two hexadecimal digits after invert, as invert 53"
-            ),
-            Misuse::Route => write!(
-                f,
-                "expected power, split, table, nibble-pair or bit-tower after --route"
-            ),
-        }
+        let expected = match self {
+            Misuse::Words => {
+                "invert BB, routes, encrypt KEY BLOCK, decrypt KEY BLOCK, help, or no words"
+            }
+            Misuse::Digits => "exactly two hexadecimal digits after invert, as invert 53",
+            Misuse::Route => "power, split, table, nibble-pair or bit-tower after --route",
+        };
+        write!(f, "expected {expected}")
     }
 }
 
 impl Error for Misuse {}
 
 /// The command that the words make.
-pub fn parse(words: &Vec<String>) -> Result<Command, Misuse>
-    ensures { Asked words.now.items result }
+pub fn parse(words: &[String]) -> Result<Command, Misuse>
+    ensures { Asked words.now result }
 {
-    match words.len() {
-        0 => Ok(Command::Demonstration),
-        1 => alone(words[0].as_str()),
-        2 => with_byte(words[0].as_str(), words[1].as_str()),
-        3 => turn(words[0].as_str(), USUAL_ROUTE),
-        5 => turn_on(words[0].as_str(), words[3].as_str(), words[4].as_str()),
+    match words {
+        [] => Ok(Command::Demonstration),
+        [word] => alone(word.as_str()),
+        [word, text] => with_byte(word.as_str(), text.as_str()),
+        [word, _, _] => turn(word.as_str(), USUAL_ROUTE),
+        [word, _, _, flag, name] => turn_on(word.as_str(), flag.as_str(), name.as_str()),
         _ => Err(Misuse::Words),
     }
 }
@@ -85,11 +82,12 @@ fn alone(word: &str) -> Result<Command, Misuse>
 fn turn(word: &str, route: RouteName) -> Result<Command, Misuse>
     ensures { Turns word.now route result }
 {
-    match word {
-        "encrypt" => Ok(Command::Turn { back: false, route }),
-        "decrypt" => Ok(Command::Turn { back: true, route }),
-        _ => Err(Misuse::Words),
-    }
+    let direction = match word {
+        "encrypt" => Direction::Encrypt,
+        "decrypt" => Direction::Decrypt,
+        _ => return Err(Misuse::Words),
+    };
+    Ok(Command::Turn { direction, route })
 }
 
 /// The same on a route that is named after `--route`.
@@ -99,10 +97,7 @@ fn turn_on(word: &str, flag: &str, name: &str) -> Result<Command, Misuse>
     if flag != "--route" {
         return Err(Misuse::Words);
     }
-    match RouteName::parse(name) {
-        Some(route) => turn(word, route),
-        None => Err(Misuse::Route),
-    }
+    turn(word, RouteName::parse(name).ok_or(Misuse::Route)?)
 }
 
 /// The command of a word and a byte.
@@ -112,8 +107,5 @@ fn with_byte(word: &str, text: &str) -> Result<Command, Misuse>
     if word != "invert" {
         return Err(Misuse::Words);
     }
-    match hex::byte(text) {
-        Some(byte) => Ok(Command::Invert(byte)),
-        None => Err(Misuse::Digits),
-    }
+    byte(text).map(Command::Invert).ok_or(Misuse::Digits)
 }

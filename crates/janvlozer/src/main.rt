@@ -2,14 +2,8 @@
 
 #![tactic(auto)]
 
-mod asking;
 mod command;
-mod hex;
-mod inversion;
 mod show;
-mod survey;
-mod trail;
-mod turned;
 
 use command::Misuse;
 use std::env;

@@ -1,13 +1,9 @@
 //! What each command prints.
-use crate::asking::{Asking, HEADING};
 use crate::command::Command;
-use crate::hex;
-use crate::inversion::Inversion;
-use crate::survey::Survey;
-use crate::turned::{RoundTrip, turn_block};
-use anyhow::anyhow;
+use anyhow::{Context, anyhow};
+use console::{Direction, bytes};
 use routes::RouteName;
-use std::io;
+use views::{Inverted, RoundTrip, Survey, turn_block};
 
 /// The byte of the demonstration.
 const DEMONSTRATION: u8 = 0x53;
@@ -16,42 +12,26 @@ const DEMONSTRATION: u8 = 0x53;
 pub fn show(
     rt: &(impl Print + AllocGlobal),
     command: Command,
-    words: &Vec<String>,
+    words: &[String],
 ) -> anyhow::Result<()> {
     match command {
-        Command::Demonstration => {
-            show_inversion(rt, DEMONSTRATION)?;
-            println!(rt)?;
-            show_routes(rt)?;
-            println!(rt)?;
-            rt.println(RoundTrip::new()?)?;
-        }
-        Command::Invert(byte) => show_inversion(rt, byte)?,
-        Command::Routes => show_routes(rt)?,
-        Command::Turn { back, route } => show_turned(rt, back, route, words)?,
+        Command::Demonstration => show_demonstration(rt)?,
+        Command::Invert(byte) => rt.println(Inverted(byte))?,
+        Command::Routes => rt.println(Survey::new())?,
+        Command::Turn { direction, route } => show_turned(rt, direction, route, words)?,
         Command::Help => rt.println(HELP)?,
     }
     Ok(())
 }
 
-/// Prints how a byte is inverted in three fields and by five routes.
-fn show_inversion(rt: &impl Print, byte: u8) -> io::Result<()> {
-    rt.println(Inversion::new(byte))?;
+/// Prints a byte as it is inverted, what the routes do, and a block that comes back on another route.
+fn show_demonstration(rt: &impl Print) -> anyhow::Result<()> {
+    rt.println(Inverted(DEMONSTRATION))?;
     println!(rt)?;
-    println!(rt;
-        "inverting {byte:02X} by five routes, each asked once on sixteen bytes that begin with {byte:02X}"
-    )?;
+    rt.println(Survey::new())?;
     println!(rt)?;
-    rt.println(HEADING)?;
-    for name in RouteName::ALL {
-        rt.println(Asking::new(name, byte))?;
-    }
+    rt.println(RoundTrip::new()?)?;
     Ok(())
-}
-
-/// Prints what the five routes do, and on how many bytes they agree.
-fn show_routes(rt: &impl Print) -> io::Result<()> {
-    rt.println(Survey::new())
 }
 
 /// What the program can be asked.
@@ -69,20 +49,19 @@ KEY and BLOCK are hexadecimal digits in either case, two a byte.";
 /// Prints a block turned on a route. Key and block are the second and third word.
 fn show_turned(
     rt: &(impl Print + AllocGlobal),
-    back: bool,
+    direction: Direction,
     route: RouteName,
-    words: &Vec<String>,
+    words: &[String],
 ) -> anyhow::Result<()> {
-    let heap = rt.alloc();
-    let (Some(key), Some(block)) = (words.get(1), words.get(2)) else {
+    let [_, key, block, ..] = words else {
         return Err(anyhow!("a key and a block were expected"));
     };
-    let Some(key) = hex::bytes(heap, key.as_str())? else {
-        return Err(anyhow!("the key was expected as hexadecimal digits, two a byte"));
-    };
-    let Some(block) = hex::bytes(heap, block.as_str())? else {
-        return Err(anyhow!("the block was expected as hexadecimal digits, two a byte"));
-    };
-    rt.println(turn_block(back, route, key.as_slice(), block)?)?;
+    let key = bytes(rt.alloc(), key.as_str())?.context(
+        "the key was expected as hexadecimal digits, two a byte",
+    )?;
+    let block = bytes(rt.alloc(), block.as_str())?.context(
+        "the block was expected as hexadecimal digits, two a byte",
+    )?;
+    rt.println(turn_block(direction, route, key.as_slice(), block)?)?;
     Ok(())
 }

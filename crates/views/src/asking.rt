@@ -27,10 +27,7 @@ fn fresh(name: RouteName) -> AnyRoute
     ensures tally { any_tally result ≡ 0 }
     ensures named { any_name result ≡ name_text name }
 {
-    match AnyRoute::new(name, 0) {
-        Ok(route) => route,
-        Err(_) => unreachable(),
-    }
+    AnyRoute::new(name, 0).unwrap()
 }
 
 impl Asking {

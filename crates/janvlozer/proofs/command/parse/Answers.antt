@@ -8,12 +8,6 @@ use Rattle.janvlozer.specs.declared.command.Misuse.{Misuse}
 use Rattle.janvlozer.proofs.command.parse.Goals as goal
 
 module _ (r : Result Command Misuse) where
-  -- One word, read at its place.
-  one_word : (ws : List (String Global)) (x : String Global) → length ws ≡ 1 → x ≡ get_or ws 0 x → Alone (string_bytes x) r → Asked ws r
-  one_word [] x l p h = let f : ⊥ = omega arith in absurd f
-  one_word (a ∷ []) x l p h = subst (λ u. Alone (string_bytes u) r) p h
-  one_word (a ∷ b ∷ ws) x l p h = let f : ⊥ = omega arith in absurd f
-
   -- Two words, each read at its place.
   two_words : (ws : List (String Global)) (x y : String Global) → length ws ≡ 2 → x ≡ get_or ws 0 x → y ≡ get_or ws 1 y → After (string_bytes x) (string_bytes y) r → Asked ws r
   two_words [] x y l p q h = let f : ⊥ = omega arith in absurd f
@@ -39,24 +33,17 @@ module _ (r : Result Command Misuse) where
   five_words (a ∷ b ∷ c ∷ d ∷ e ∷ []) x y z l p q s h = subst₃ (λ u v w. TurnsOn (string_bytes u) (string_bytes v) (string_bytes w) r) p q s h
   five_words (a ∷ b ∷ c ∷ d ∷ e ∷ f ∷ ws) x y z l p q s h = let no_such : ⊥ = omega arith in absurd no_such
 
-pub returns-in-1 : goal.returns-in-1
-returns-in-1 c =
-    one_word c.alone.result _ c.index.result.now (sym c.args.words.now.ok.0 ∙ sym c.len.ensures ∙ c.in-1.is) c.index.ensures
-    (subst (λ word. Alone word c.alone.result) c.as_str.ensures.value c.alone.ensures)
+pub returns-in-len2 : goal.returns-in-len2
+returns-in-len2 c =
+    two_words c.with_byte.result _ c.word-item-then-words-lt3.result c.text-item.result (omega (arith, c.in-len2.len_at_least, c.in-len2.len_below)) c.word-item-then-words-lt3.is c.text-item.is
+    (subst₂ (λ word text. After word text c.with_byte.result) c.as_str-in-len2.ensures.value c.as_str-in-len2-2.ensures.value c.with_byte.ensures)
 
-pub returns-in-2 : goal.returns-in-2
-returns-in-2 c =
-    two_words c.with_byte.result _ c.index-in-2.result.now c.index-in-2-2.result.now
-    (sym c.args.words.now.ok.0 ∙ sym c.len.ensures ∙ c.in-2.is) c.index-in-2.ensures c.index-in-2-2.ensures
-    (subst₂ (λ word text. After word text c.with_byte.result) c.as_str-in-2.ensures.value c.as_str-in-2-2.ensures.value c.with_byte.ensures)
+pub returns-in-len3 : goal.returns-in-len3
+returns-in-len3 c =
+    three_words c.turn.result _ c.word-item-then-words-lt4.result (omega (arith, c.in-len3.len_at_least, c.in-len3.len_below)) c.word-item-then-words-lt4.is
+    (subst (λ word. Turns word Table c.turn.result) c.as_str-in-len3.ensures.value c.turn.ensures)
 
-pub returns-in-3 : goal.returns-in-3
-returns-in-3 c =
-    three_words c.turn.result _ c.index-in-3.result.now (sym c.args.words.now.ok.0 ∙ sym c.len.ensures ∙ c.in-3.is) c.index-in-3.ensures
-    (subst (λ word. Turns word Table c.turn.result) c.as_str-in-3.ensures.value c.turn.ensures)
-
-pub returns-in-5 : goal.returns-in-5
-returns-in-5 c =
-    five_words c.turn_on.result _ c.index-in-5.result.now c.index-in-5-2.result.now c.index-in-5-3.result.now
-    (sym c.args.words.now.ok.0 ∙ sym c.len.ensures ∙ c.in-5.is) c.index-in-5.ensures c.index-in-5-2.ensures c.index-in-5-3.ensures
-    (subst₃ (λ word flag name. TurnsOn word flag name c.turn_on.result) c.as_str-in-5.ensures.value c.as_str-in-5-2.ensures.value c.as_str-in-5-3.ensures.value c.turn_on.ensures)
+pub returns-in-len5 : goal.returns-in-len5
+returns-in-len5 c =
+    five_words c.turn_on.result _ c.word-item-then-words-lt6.result c.flag-item.result c.name-item.result (omega (arith, c.in-len5.len_at_least, c.in-len5.len_below)) c.word-item-then-words-lt6.is c.flag-item.is c.name-item.is
+    (subst₃ (λ word flag name. TurnsOn word flag name c.turn_on.result) c.as_str-in-len5.ensures.value c.as_str-in-len5-2.ensures.value c.as_str-in-len5-3.ensures.value c.turn_on.ensures)
