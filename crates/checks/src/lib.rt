@@ -3,10 +3,6 @@
 #![tactic(auto)]
 
 #[cfg(test)]
-mod cipher_tests;
-#[cfg(test)]
 mod console_tests;
-#[cfg(test)]
-mod fields_tests;
 #[cfg(test)]
 mod routes_tests;

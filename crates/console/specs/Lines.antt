@@ -1,5 +1,5 @@
 -- What a line of a script means. Assumes nothing.
-use Rattle.std.specs.Prelude.{◌≡◌, ℕ, cond, List, [], ◌∷◌, length, Some, None, vec_items, codes, Option, Vec, MatchOption, ◌==◌, ◌≢◌, slice_index}
+use Rattle.std.specs.Prelude.{◌≡◌, ℕ, cond, List, [], ◌∷◌, length, Some, None, Ok, Err, vec_items, codes, Option, Result, Vec, MatchOption, ◌==◌, ◌≢◌, slice_index}
 use Rattle.std.specs.Option.{option_map}
 use Rattle.std.specs.declared.alloc.Global.{Global}
 use Rattle.routes.specs.Names.{Named}
@@ -7,8 +7,8 @@ use Rattle.routes.specs.declared.name.RouteName.{RouteName}
 use Rattle.console.specs.Words.{run_word, NumberRead, Parted}
 use Rattle.console.specs.declared.command.Command.{Command}
 use Rattle.console.specs.declared.command.Command.TheVariants.{MakeRoute, OpenSession, SkipNumbers, WithRun, Plainly}
-use Rattle.console.specs.declared.command.Line.{Line}
-use Rattle.console.specs.declared.command.Line.TheVariants.{PassedOver, Asks, NoVerb, Misfit}
+use Rattle.console.specs.declared.misread.Misread.{Misread}
+use Rattle.console.specs.declared.misread.Misread.TheVariants.{NoVerb, Misfit, Memory}
 use Rattle.console.specs.declared.verb.LoneVerb.{LoneVerb}
 use Rattle.console.specs.declared.verb.LoneVerb.TheVariants.{Remaining, Close, Retire}
 use Rattle.console.specs.declared.verb.RunVerb.{RunVerb}
@@ -31,6 +31,10 @@ verb_text (Alone Retire) = codes "retire"
 -- A word is the verb whose text it is, or none where it is no verb's.
 abbrev pub VerbNamed : List ℕ → Option Verb → Type 0
 VerbNamed word r = MatchOption r ((v : Verb) → word ≢ verb_text v) (λ v. word ≡ verb_text v)
+
+abbrev pub VerbParsed : List ℕ → Result Verb Misread → Type 0
+VerbParsed word (Ok v) = VerbNamed word (Some v)
+VerbParsed word (Err e) = (e ≡ NoVerb) × VerbNamed word None
 
 -- Two things, where both are there.
 abbrev pub both : {A B C : Type 0} → (A → B → C) → Option A → Option B → Option C
@@ -78,19 +82,20 @@ ArgumentsRead (Alone verb) rest o = o ≡ alone_of verb rest
 
 -- ---- a whole line
 
--- A line whose first word is a verb, by what follows it.
-abbrev pub VerbRead : Verb → List ℕ → Line → Type 0
-VerbRead verb rest (Asks c) = ArgumentsRead verb rest (Some c)
-VerbRead verb rest (Misfit v) = (v ≡ verb) × ArgumentsRead verb rest None
-VerbRead verb rest PassedOver = ⊥
-VerbRead verb rest NoVerb = ⊥
+-- A line whose first word is a verb, by what follows it; or memory ran short.
+abbrev pub VerbRead : Verb → List ℕ → Result (Option Command) Misread → Type 0
+VerbRead verb rest (Ok (Some c)) = ArgumentsRead verb rest (Some c)
+VerbRead verb rest (Ok None) = ⊥
+VerbRead verb rest (Err (Misfit v)) = (v ≡ verb) × ArgumentsRead verb rest None
+VerbRead verb rest (Err NoVerb) = ⊥
+VerbRead verb rest (Err (Memory e)) = Unit {0}
 
--- A line by its first word: blank, a remark, a verb, or none of these.
-abbrev pub WordRead : List ℕ → List ℕ → Line → Type 0
-WordRead word rest l =
-    cond (length word == 0) (l ≡ PassedOver)
-    (cond (slice_index word 0 == 35) (l ≡ PassedOver)
-    ((verb : Option Verb) × VerbNamed word verb × MatchOption verb (l ≡ NoVerb) (λ v. VerbRead v rest l)))
+-- A line by its first word: blank or a remark, which ask for nothing, a verb, or none of these.
+abbrev pub WordRead : List ℕ → List ℕ → Result (Option Command) Misread → Type 0
+WordRead word rest r =
+    cond (length word == 0) (r ≡ Ok None)
+    (cond (slice_index word 0 == 35) (r ≡ Ok None)
+    ((verb : Option Verb) × VerbNamed word verb × MatchOption verb (r ≡ Err NoVerb) (λ v. VerbRead v rest r)))
 
-abbrev pub LineRead : List ℕ → Line → Type 0
-LineRead line l = (word : List ℕ) × (rest : List ℕ) × Parted line word rest × WordRead word rest l
+abbrev pub LineRead : List ℕ → Result (Option Command) Misread → Type 0
+LineRead line r = (word : List ℕ) × (rest : List ℕ) × Parted line word rest × WordRead word rest r

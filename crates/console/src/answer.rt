@@ -1,22 +1,23 @@
 //! What a command is answered.
+ghost use Rattle.std.specs.Prelude.{◌≡◌};
+ghost use Rattle.console.specs.declared.answer.Failure.TheVariants.{Refused, OutOfPlace};
+
 use crate::hex::Hex;
 use routes::Refusal;
 use std::error::Error;
 use std::fmt;
 
-/// What a command is answered.
+/// What a command is answered that was carried out.
 #[derive(Drop)]
 pub enum Answer {
-    /// It was carried out.
+    /// It gave nothing.
     Taken,
-    /// It was carried out, and gave a number: what remains, the next number, or a tally.
+    /// It gave a number: what remains, the next number, or a tally.
     Number(u64),
     /// A run was covered: the first number used, how many, and the run as it is now.
     Covered(u64, u64, Vec<u8>),
     /// A block was encrypted or decrypted: the block as it is now.
     Block(Vec<u8>),
-    /// It was refused.
-    Refused(Refusal),
 }
 
 impl fmt::Display for Answer {
@@ -28,12 +29,47 @@ impl fmt::Display for Answer {
                 write!(f, "taken {first} {count} {}", Hex(run.as_slice()))
             }
             Answer::Block(block) => write!(f, "taken {}", Hex(block.as_slice())),
-            Answer::Refused(refusal) => {
-                write!(f, "refused {} {}", refusal.number(), refusal.value())
-            }
         }
     }
 }
+
+/// Why a command was not carried out.
+#[derive(Clone, Copy, PartialEq, Eq, Debug)]
+pub enum Failure {
+    /// The engine, the session or a route refused it. That is an answer too, and a script goes on.
+    Refused(Refusal),
+    /// It has nothing to work on.
+    OutOfPlace(Unfit),
+}
+
+impl From<Refusal> for Failure {
+    ghost from_gives = { λ refusal r. r ≡ Refused refusal };
+
+    fn from(refusal: Refusal) -> Failure {
+        Failure::Refused(refusal)
+    }
+}
+
+impl From<Unfit> for Failure {
+    ghost from_gives = { λ unfit r. r ≡ OutOfPlace unfit };
+
+    fn from(unfit: Unfit) -> Failure {
+        Failure::OutOfPlace(unfit)
+    }
+}
+
+impl fmt::Display for Failure {
+    fn fmt<W: fmt::Write>(&self, f: &mut fmt::Formatter<W>) -> fmt::Result {
+        match self {
+            Failure::Refused(refusal) => {
+                write!(f, "refused {} {}", refusal.number(), refusal.value())
+            }
+            Failure::OutOfPlace(unfit) => write!(f, "{unfit}"),
+        }
+    }
+}
+
+impl Error for Failure {}
 
 /// Why a command has nothing to work on.
 #[derive(Clone, Copy, PartialEq, Eq, Debug)]
@@ -50,18 +86,13 @@ pub enum Unfit {
 
 impl fmt::Display for Unfit {
     fn fmt<W: fmt::Write>(&self, f: &mut fmt::Formatter<W>) -> fmt::Result {
-        match self {
-            Unfit::EngineMissing => write!(f, "expected an engine: route NAME START makes one"),
-            Unfit::EngineThere => write!(
-                f,
-                "expected no engine: retire the one that is there first"
-            ),
-            Unfit::SessionMissing => write!(f, "expected a session: open PREFIX [AT] opens one"),
-            Unfit::SessionThere => write!(
-                f,
-                "expected no session: close the one that is open first"
-            ),
-        }
+        let expected = match self {
+            Unfit::EngineMissing => "an engine: route NAME START makes one",
+            Unfit::EngineThere => "no engine: retire the one that is there first",
+            Unfit::SessionMissing => "a session: open PREFIX [AT] opens one",
+            Unfit::SessionThere => "no session: close the one that is open first",
+        };
+        write!(f, "expected {expected}")
     }
 }
 

@@ -4,6 +4,7 @@ ghost use Rattle.console.specs.Lines.{both, RouteRead, OpenRead, SkipRead, RunRe
 ghost use Rattle.console.specs.declared.command.Command.TheVariants.{OpenSession};
 
 use crate::hex;
+use crate::misread::Misread;
 use crate::numeral::number;
 use crate::verb::{LoneVerb, RunVerb, Verb};
 use crate::word::first_word;
@@ -25,28 +26,11 @@ pub enum Command {
     Plainly(LoneVerb),
 }
 
-/// What a line of a script is.
-#[derive(Drop)]
-pub enum Line {
-    /// A blank line, or one that begins with `#`.
-    PassedOver,
-    /// A command.
-    Asks(Command),
-    /// The first word is none of the verbs.
-    NoVerb,
-    /// What follows this verb is not written as it has to be.
-    Misfit(Verb),
-}
-
 /// The command of a verb that stands alone, or none where something follows it.
 fn alone(verb: LoneVerb, rest: &str) -> Option<Command>
     ensures { result ≡ alone_of verb rest.now }
 {
-    if rest.is_empty() {
-        Some(Command::Plainly(verb))
-    } else {
-        None
-    }
+    rest.is_empty().then_some(Command::Plainly(verb))
 }
 
 /// What follows `route`: a name and a number.
@@ -54,10 +38,8 @@ fn route(rest: &str) -> Option<Command>
     ensures { RouteRead rest.now result }
 {
     let (name, start) = first_word(rest);
-    match (RouteName::parse(name), number(start)) {
-        (Some(name), Some(start)) => Some(Command::MakeRoute(name, start)),
-        _ => None,
-    }
+    let (name, start) = (RouteName::parse(name), number(start));
+    Some(Command::MakeRoute(name?, start?))
 }
 
 /// An opening number, where there is one; or none where it is not written as a number.
@@ -67,20 +49,14 @@ fn opening(text: &str) -> Option<Option<u64>>
     if text.is_empty() {
         return Some(None);
     }
-    match number(text) {
-        Some(at) => Some(Some(at)),
-        None => None,
-    }
+    number(text).map(Some)
 }
 
 /// The command of a prefix and perhaps a number, where both could be read.
 fn opened(prefix: Option<Vec<u8>>, at: Option<Option<u64>>) -> Option<Command>
     ensures { result ≡ both OpenSession prefix at }
 {
-    match (prefix, at) {
-        (Some(prefix), Some(at)) => Some(Command::OpenSession(prefix, at)),
-        _ => None,
-    }
+    Some(Command::OpenSession(prefix?, at?))
 }
 
 /// What follows `open`: a prefix, and perhaps a number.
@@ -88,28 +64,21 @@ fn open(heap: Global, rest: &str) -> Result<Option<Command>, AllocError>
     ensures { IfOk result (λ o. OpenRead rest.now o) }
 {
     let (prefix, at) = first_word(rest);
-    let prefix = hex::run(heap, prefix)?;
-    Ok(opened(prefix, opening(at)))
+    Ok(opened(hex::run(heap, prefix)?, opening(at)))
 }
 
 /// What follows `skip`: a number.
 fn skip(rest: &str) -> Option<Command>
     ensures { SkipRead rest.now result }
 {
-    match number(rest) {
-        Some(n) => Some(Command::SkipNumbers(n)),
-        None => None,
-    }
+    number(rest).map(Command::SkipNumbers)
 }
 
 /// What follows a verb that works on a run of bytes: that run.
 fn on_run(heap: Global, verb: RunVerb, rest: &str) -> Result<Option<Command>, AllocError>
     ensures { IfOk result (λ o. RunRead verb rest.now o) }
 {
-    match hex::run(heap, rest)? {
-        Some(run) => Ok(Some(Command::WithRun(verb, run))),
-        None => Ok(None),
-    }
+    Ok(hex::run(heap, rest)?.map(|run| Command::WithRun(verb, run)))
 }
 
 /// The command of a verb and what follows it, or none where that is not written as it has to be.
@@ -125,19 +94,17 @@ fn arguments(heap: Global, verb: Verb, rest: &str) -> Result<Option<Command>, Al
     }
 }
 
-/// Reads a line of a script.
-pub fn read(heap: Global, line: &str) -> Result<Line, AllocError>
-    ensures { IfOk result (λ l. LineRead line.now l) }
+/// The command of a line of a script, or none where the line is blank or begins with `#`.
+pub fn read(heap: Global, line: &str) -> Result<Option<Command>, Misread>
+    ensures { LineRead line.now result }
 {
     let (word, rest) = first_word(line);
     if word.is_empty() || word.as_bytes()[0] == b'#' {
-        return Ok(Line::PassedOver);
+        return Ok(None);
     }
-    let Some(verb) = Verb::parse(word) else {
-        return Ok(Line::NoVerb);
-    };
+    let verb: Verb = word.parse()?;
     match arguments(heap, verb, rest)? {
-        Some(command) => Ok(Line::Asks(command)),
-        None => Ok(Line::Misfit(verb)),
+        Some(command) => Ok(Some(command)),
+        None => Err(Misread::Misfit(verb)),
     }
 }

@@ -34,13 +34,13 @@ fn calls(heap: Global) -> Result<Vec<SessionCall>, AllocError>
     ensures { IfOk result (λ v. CallsAre v.items) }
 {
     let run = Vec::from_slice(heap, READING)?;
-    let mut calls = Vec::new(heap);
-    calls.push(SessionCall::Remaining)?;
-    calls.push(SessionCall::Cover(run))?;
-    calls.push(SessionCall::Skip(6))?;
-    calls.push(SessionCall::Skip(1 << 32))?;
-    calls.push(SessionCall::Remaining)?;
-    Ok(calls)
+    Ok(vec![in heap;
+        SessionCall::Remaining,
+        SessionCall::Cover(run),
+        SessionCall::Skip(6),
+        SessionCall::Skip(1 << 32),
+        SessionCall::Remaining,
+    ]?)
 }
 
 impl Delivery {

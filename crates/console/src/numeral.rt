@@ -8,8 +8,5 @@ pub fn number(text: &str) -> Option<u64>
     if text.starts_with('+') {
         return None;
     }
-    match text.parse::<u64>() {
-        Ok(n) => Some(n),
-        Err(_) => None,
-    }
+    text.parse().ok()
 }

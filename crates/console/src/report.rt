@@ -1,4 +1,5 @@
 //! The demonstration: a reading on its way, told for people.
+use crate::answer::Failure;
 use crate::delivery::{Delivery, KEY, OPENING, PREFIX, READING, START};
 use crate::hex::Hex;
 use routes::RouteName;
@@ -12,12 +13,11 @@ struct Plain<'a>(&'a [u8]);
 impl fmt::Display for Plain<'_> {
     fn fmt<W: fmt::Write>(&self, f: &mut fmt::Formatter<W>) -> fmt::Result {
         for byte in self.0 {
-            let shown = if *byte >= 32 && *byte < 127 {
-                *byte
-            } else {
-                b'.'
+            let shown = match *byte {
+                b' '..=b'~' => *byte as char,
+                _ => '.',
             };
-            write!(f, "{}", shown as char)?;
+            write!(f, "{shown}")?;
         }
         Ok(())
     }
@@ -46,9 +46,7 @@ impl fmt::Display for Told {
         match self.0 {
             SessionAnswer::Left(n) => write!(f, "taken {n}"),
             SessionAnswer::Used(first, count) => write!(f, "taken {first} {count}"),
-            SessionAnswer::Refused(refusal) => {
-                write!(f, "refused {} {}", refusal.number(), refusal.value())
-            }
+            SessionAnswer::Refused(refusal) => write!(f, "{}", Failure::Refused(refusal)),
         }
     }
 }
@@ -57,16 +55,11 @@ impl fmt::Display for Told {
 fn show_calls(rt: &(impl Print + AllocGlobal), near: &End, far: &End) -> anyhow::Result<()> {
     let heap = rt.alloc();
     println!(rt; "call                at the transmitter    at the gateway")?;
-    for i in 0..near.calls.len() {
-        if let (Some(call), Some(here), Some(there)) = (
-            near.calls.get(i),
-            near.answers.get(i),
-            far.answers.get(i),
-        ) {
-            let call = Asked(call).to_string(heap)?;
-            let here = Told(*here).to_string(heap)?;
-            println!(rt; "{call:<18}  {here:<20}  {}", Told(*there))?;
-        }
+    let answers = near.answers.iter().zip(far.answers.iter());
+    for (call, (here, there)) in near.calls.iter().zip(answers) {
+        let call = Asked(call).to_string(heap)?;
+        let here = Told(*here).to_string(heap)?;
+        println!(rt; "{call:<18}  {here:<20}  {}", Told(*there))?;
     }
     Ok(())
 }
@@ -76,7 +69,7 @@ fn show_tally(rt: &impl Print, delivery: &Delivery) -> io::Result<()> {
     let near = delivery.ends.transmitter.tally;
     let far = delivery.ends.gateway.tally;
     println!(rt; "tallies             {near:<20}  {far}")?;
-    let blocks = (READING.len() + 15) / 16;
+    let blocks = READING.len().div_ceil(16);
     println!(rt;
         "                    {START} at the start, 10 for the key, 10 rounds for each of {blocks} covered blocks"
     )

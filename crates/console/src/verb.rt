@@ -1,5 +1,7 @@
 //! The first words of commands.
-ghost use Rattle.console.specs.Lines.{VerbNamed};
+use crate::misread::Misread;
+use std::fmt;
+use std::str::FromStr;
 
 /// A verb that works on a run of bytes, which follows it.
 #[derive(Clone, Copy, PartialEq, Eq, Debug)]
@@ -10,12 +12,33 @@ pub enum RunVerb {
     Decrypt,
 }
 
+impl fmt::Display for RunVerb {
+    fn fmt<W: fmt::Write>(&self, f: &mut fmt::Formatter<W>) -> fmt::Result {
+        f.pad(match self {
+            RunVerb::Key => "key",
+            RunVerb::Cover => "cover",
+            RunVerb::Encrypt => "encrypt",
+            RunVerb::Decrypt => "decrypt",
+        })
+    }
+}
+
 /// A verb that stands alone.
 #[derive(Clone, Copy, PartialEq, Eq, Debug)]
 pub enum LoneVerb {
     Remaining,
     Close,
     Retire,
+}
+
+impl fmt::Display for LoneVerb {
+    fn fmt<W: fmt::Write>(&self, f: &mut fmt::Formatter<W>) -> fmt::Result {
+        f.pad(match self {
+            LoneVerb::Remaining => "remaining",
+            LoneVerb::Close => "close",
+            LoneVerb::Retire => "retire",
+        })
+    }
 }
 
 /// The first word of a command.
@@ -28,23 +51,27 @@ pub enum Verb {
     Alone(LoneVerb),
 }
 
-impl Verb {
-    /// The verb that a word is, or none.
-    pub fn parse(word: &str) -> Option<Verb>
-        ensures { VerbNamed word.now result }
-    {
+/// The verb that a word is.
+impl FromStr for Verb {
+    type Err = Misread;
+
+    ghost use Rattle.console.specs.Lines.{VerbParsed};
+
+    ghost from_str_gives = { VerbParsed };
+
+    fn from_str(word: &str) -> Result<Verb, Misread> {
         match word {
-            "route" => Some(Verb::Route),
-            "open" => Some(Verb::Open),
-            "skip" => Some(Verb::Skip),
-            "key" => Some(Verb::OnRun(RunVerb::Key)),
-            "cover" => Some(Verb::OnRun(RunVerb::Cover)),
-            "encrypt" => Some(Verb::OnRun(RunVerb::Encrypt)),
-            "decrypt" => Some(Verb::OnRun(RunVerb::Decrypt)),
-            "remaining" => Some(Verb::Alone(LoneVerb::Remaining)),
-            "close" => Some(Verb::Alone(LoneVerb::Close)),
-            "retire" => Some(Verb::Alone(LoneVerb::Retire)),
-            _ => None,
+            "route" => Ok(Verb::Route),
+            "open" => Ok(Verb::Open),
+            "skip" => Ok(Verb::Skip),
+            "key" => Ok(Verb::OnRun(RunVerb::Key)),
+            "cover" => Ok(Verb::OnRun(RunVerb::Cover)),
+            "encrypt" => Ok(Verb::OnRun(RunVerb::Encrypt)),
+            "decrypt" => Ok(Verb::OnRun(RunVerb::Decrypt)),
+            "remaining" => Ok(Verb::Alone(LoneVerb::Remaining)),
+            "close" => Ok(Verb::Alone(LoneVerb::Close)),
+            "retire" => Ok(Verb::Alone(LoneVerb::Retire)),
+            _ => Err(Misread::NoVerb),
         }
     }
 }

@@ -4,8 +4,5 @@ use Rattle.std.proofs.lemmas.Str.Pattern.{starts_char}
 use Rattle.console.proofs.Reading.{own}
 use Rattle.console.proofs.numeral.number.Goals as goal
 
-pub returns-in-Ok : goal.returns-in-Ok
-returns-in-Ok c = search (rules, parse_plain own 64 c.args.text.now _ c.parse.ensures.value.0, starts_char 43 c.args.text.now _ c.starts_with.ensures.cases)
-
-pub returns-in-Err : goal.returns-in-Err
-returns-in-Err c = search (rules, parse_plain own 64 c.args.text.now _ c.parse.ensures.value.0, starts_char 43 c.args.text.now _ c.starts_with.ensures.cases)
+pub returns : goal.returns
+returns c = search (rules, parse_plain own 64 c.args.text.now _ c.parse.ensures.value.0, starts_char 43 c.args.text.now _ c.starts_with.ensures.cases)
