@@ -30,7 +30,7 @@ fn show_demonstration(rt: &impl Print) -> anyhow::Result<()> {
     println!(rt)?;
     rt.println(Survey::new())?;
     println!(rt)?;
-    rt.println(RoundTrip::new()?)?;
+    rt.println(RoundTrip::new())?;
     Ok(())
 }
 

@@ -23,7 +23,7 @@ pub struct Asking {
 pub const HEADING: &str = "route        steps                       inverse  tally";
 
 /// A route that nobody has asked.
-fn fresh(name: RouteName) -> AnyRoute
+pub(crate) fn fresh(name: RouteName) -> AnyRoute
     ensures tally { any_tally result ≡ 0 }
     ensures named { any_name result ≡ name_text name }
 {

@@ -1,7 +1,12 @@
 //! A block that is encrypted on one route and comes back on another.
+ghost use Rattle.std.specs.Prelude.{◌≡◌};
+ghost use Rattle.console.specs.Directions.{turned_by};
+ghost use Rattle.views.specs.Trips.{CameBack};
+
+use crate::asking::fresh;
 use cipher::Engine;
-use console::Hex;
-use routes::{AnyRoute, Refusal, Route, RouteName};
+use console::{Direction, Hex};
+use routes::{Route, RouteName};
 use std::fmt;
 
 /// A block encrypted on one route and decrypted on another, and the tallies of both after.
@@ -24,29 +29,31 @@ const BLOCK: [u8; 16] = [
     0x00, 0x11, 0x22, 0x33, 0x44, 0x55, 0x66, 0x77, 0x88, 0x99, 0xaa, 0xbb, 0xcc, 0xdd, 0xee, 0xff,
 ];
 
-/// An engine on a route that begins with the tally 0, with the key of the demonstration.
-fn keyed(route: RouteName) -> Result<Engine<AnyRoute>, Refusal> {
-    let mut engine = Engine::new(AnyRoute::new(route, 0)?);
-    engine.set_key(&KEY)?;
-    Ok(engine)
+/// A block turned under the key of the demonstration on a route that nobody has asked, and the route's tally after.
+fn turned(direction: Direction, route: RouteName, mut block: [u8; 16]) -> ([u8; 16], u64)
+    ensures block { result.0 ≡ turned_by direction 4 KEY block }
+    ensures tally { result.1 ≡ 20 }
+{
+    let mut engine = Engine::new(fresh(route));
+    engine.set_key(&KEY).unwrap();
+    direction.turn(&mut engine, &mut block).unwrap();
+    (block, engine.retire().tally())
 }
 
 impl RoundTrip {
     /// Encrypts the block on the table route and decrypts it on the bit tower.
-    pub fn new() -> Result<RoundTrip, Refusal> {
-        let mut sender = keyed(RouteName::Table)?;
-        let mut reader = keyed(RouteName::BitTower)?;
-        let mut block = BLOCK;
-        sender.encrypt(&mut block)?;
-        let covered = block;
-        reader.decrypt(&mut block)?;
-        Ok(RoundTrip {
+    pub fn new() -> RoundTrip
+        ensures { CameBack KEY BLOCK result }
+    {
+        let (covered, sent) = turned(Direction::Encrypt, RouteName::Table, BLOCK);
+        let (back, read) = turned(Direction::Decrypt, RouteName::BitTower, covered);
+        RoundTrip {
             block: BLOCK,
             covered,
-            back: block,
-            sent: sender.retire().tally(),
-            read: reader.retire().tally(),
-        })
+            back,
+            sent,
+            read,
+        }
     }
 }
 

@@ -1,8 +1,8 @@
-use Rattle.std.proofs.Common.{◌≡◌, List, [], ◌∷◌, length, get_or, string_bytes, Result, String, sym, ◌∙◌, subst, subst₂, arith}
+use Rattle.std.proofs.Common.{◌≡◌, List, [], ◌∷◌, length, get_or, string_bytes, Result, String, subst, subst₂, arith}
 use mathlib.Core.Path.{subst₃}
 use Rattle.std.specs.declared.alloc.Global.{Global}
 use Rattle.routes.specs.declared.name.RouteName.TheVariants.{Table}
-use Rattle.janvlozer.specs.Commands.{Alone, After, Turns, TurnsOn, Asked}
+use Rattle.janvlozer.specs.Commands.{After, Turns, TurnsOn, Asked}
 use Rattle.janvlozer.specs.declared.command.Command.{Command}
 use Rattle.janvlozer.specs.declared.command.Misuse.{Misuse}
 use Rattle.janvlozer.proofs.command.parse.Goals as goal
