@@ -5,16 +5,16 @@ use Rattle.std.specs.declared.alloc.Global.{Global}
 use Rattle.cipher.specs.Engines.{KeySet, Turned}
 use Rattle.cipher.specs.Fips197.{aes, aes_inverse}
 use Rattle.cipher.specs.declared.engine.Engine.{Engine}
-use Rattle.routes.specs.AnyRoutes.{any_tally, any_name}
+use Rattle.routes.specs.AnyRoutes.{AnyRoute, any_tally, any_name}
 use Rattle.routes.specs.Names.{name_text}
 use Rattle.routes.specs.Refusals.{numbers}
 use Rattle.routes.specs.Routes.{cap}
-use Rattle.routes.specs.declared.any_route.AnyRoute.{AnyRoute}
 use Rattle.routes.specs.declared.name.RouteName.{RouteName}
 use Rattle.routes.specs.declared.refusal.Refusal.{Refusal}
 use Rattle.sessions.specs.Histories.{Promised}
 use Rattle.sessions.specs.Reading.{Opened, Remained, Skipped, held_by, covering}
 use Rattle.sessions.specs.declared.session.Session.{Session}
+use Rattle.sessions.specs.declared.used.Used.{Used}
 use Rattle.console.specs.declared.answer.Answer.{Answer}
 use Rattle.console.specs.declared.answer.Answer.TheVariants.{Taken, Number, Covered, Block}
 use Rattle.console.specs.declared.answer.Failure.{Failure}
@@ -40,8 +40,8 @@ abbrev pub block_told : {X : Type 0} → Result X Refusal → Vec ℕ Global →
 block_told (Ok x) block = Ok (Block block)
 block_told (Err e) block = Err (Refused e)
 
-abbrev pub cover_told : Result (ℕ × ℕ) Refusal → Vec ℕ Global → Result Answer Failure
-cover_told (Ok n) run = Ok (Covered n.0 n.1 run)
+abbrev pub cover_told : Result Used Refusal → Vec ℕ Global → Result Answer Failure
+cover_told (Ok u) run = Ok (Covered u.first u.count run)
 cover_told (Err e) run = Err (Refused e)
 
 -- ---- with an engine, which is there or not
@@ -101,7 +101,7 @@ RunCovered None (Some s) run engine' session' r = (engine' ≡ None) × (session
 RunCovered (Some e) (Some s) run None session' r = ⊥
 RunCovered (Some e) (Some s) run (Some e') None r = ⊥
 RunCovered (Some e) (Some s) run (Some e') (Some s') r =
-    (x : Result (ℕ × ℕ) Refusal) × (left : Vec ℕ Global) × Promised (held_by any_tally e s) (covering run x (vec_items left)) (held_by any_tally e' s') × (r ≡ cover_told x left)
+    (x : Result Used Refusal) × (left : Vec ℕ Global) × Promised (held_by any_tally e s) (covering run x (vec_items left)) (held_by any_tally e' s') × (r ≡ cover_told x left)
 
 -- ---- a command
 

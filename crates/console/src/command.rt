@@ -38,7 +38,7 @@ fn route(rest: &str) -> Option<Command>
     ensures { RouteRead rest.now result }
 {
     let (name, start) = first_word(rest);
-    let (name, start) = (RouteName::parse(name), number(start));
+    let (name, start) = (name.parse::<RouteName>().ok(), number(start));
     Some(Command::MakeRoute(name?, start?))
 }
 

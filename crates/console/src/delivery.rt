@@ -1,9 +1,10 @@
 //! A tank reading on its way from a transmitter to a gateway.
 ghost use Rattle.std.specs.Prelude.{◌≡◌, IfOk, Decides};
+ghost use Rattle.sessions.specs.Exchanges.{calls_left};
 ghost use Rattle.console.specs.Deliveries.{CallsAre, DeliveryMade, second_run, reading};
 
 use routes::{AnyRoute, RouteName};
-use sessions::{BothEnds, End, ExchangeError, SessionCall, exchange};
+use sessions::{Agreement, Answered, BothEnds, End, ExchangeError, SessionCall, exchange};
 use std::alloc::{AllocError, Global};
 
 /// The key of both ends.
@@ -49,36 +50,33 @@ impl Delivery {
         ensures { DeliveryMade from to result }
     {
         let calls = calls(heap)?;
-        let ends = exchange::<AnyRoute, AnyRoute>(
-            heap,
-            from,
-            to,
-            KEY,
-            PREFIX,
-            Some(OPENING),
-            START,
-            calls,
-        )?;
+        let agreement = Agreement {
+            key: KEY,
+            prefix: PREFIX,
+            at: Some(OPENING),
+            start: START,
+        };
+        let ends = exchange::<AnyRoute, AnyRoute>(heap, from, to, agreement, calls)?;
         Ok(Delivery { from, to, ends })
     }
 
     /// The run that the transmitter left.
     pub fn covered(&self) -> &[u8]
-        ensures { result.now ≡ second_run self.now.ends.transmitter.calls.items }
+        ensures { result.now ≡ second_run (calls_left self.now.ends.transmitter.answered.items) }
     {
         second_run(&self.ends.transmitter)
     }
 
     /// The run that the gateway left.
     pub fn uncovered(&self) -> &[u8]
-        ensures { result.now ≡ second_run self.now.ends.gateway.calls.items }
+        ensures { result.now ≡ second_run (calls_left self.now.ends.gateway.answered.items) }
     {
         second_run(&self.ends.gateway)
     }
 
     /// Whether the gateway holds the reading as the transmitter was given it.
     pub fn came_back(&self) -> bool
-        ensures { Decides result (second_run self.now.ends.gateway.calls.items ≡ reading) }
+        ensures { Decides result (second_run (calls_left self.now.ends.gateway.answered.items) ≡ reading) }
     {
         self.uncovered() == READING
     }
@@ -86,10 +84,13 @@ impl Delivery {
 
 /// The run of an end's second call, or no bytes where that has none.
 fn second_run(end: &End) -> &[u8]
-    ensures { result.now ≡ second_run end.now.calls.items }
+    ensures { result.now ≡ second_run (calls_left end.now.answered.items) }
 {
-    match end.calls.as_slice().get(1) {
-        Some(SessionCall::Cover(run)) => run.as_slice(),
+    match end.answered.get(1) {
+        Some(Answered {
+            call: SessionCall::Cover(run),
+            answer: _,
+        }) => run.as_slice(),
         _ => &[],
     }
 }

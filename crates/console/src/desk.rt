@@ -62,8 +62,8 @@ impl Desk {
         let Some(engine) = self.engine.as_mut() else {
             return Err(Unfit::EngineMissing.into());
         };
-        let (first, count) = session.cover(engine, run.as_mut_slice(), &mut [0; 16])?;
-        Ok(Answer::Covered(first, count, run))
+        let used = session.cover(engine, run.as_mut_slice(), &mut [0; 16])?;
+        Ok(Answer::Covered(used.first, used.count, run))
     }
 
     /// Closes the session and retires the engine, where they are there, and tells the next number and the tally.

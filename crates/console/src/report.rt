@@ -3,7 +3,7 @@ use crate::answer::Failure;
 use crate::delivery::{Delivery, KEY, OPENING, PREFIX, READING, START};
 use crate::hex::Hex;
 use routes::RouteName;
-use sessions::{End, SessionAnswer, SessionCall};
+use sessions::{End, Given, SessionAnswer, SessionCall, Used};
 use std::{fmt, io};
 
 /// Bytes as characters, with a dot for those that can't be shown.
@@ -44,9 +44,9 @@ struct Told(SessionAnswer);
 impl fmt::Display for Told {
     fn fmt<W: fmt::Write>(&self, f: &mut fmt::Formatter<W>) -> fmt::Result {
         match self.0 {
-            SessionAnswer::Left(n) => write!(f, "taken {n}"),
-            SessionAnswer::Used(first, count) => write!(f, "taken {first} {count}"),
-            SessionAnswer::Refused(refusal) => write!(f, "{}", Failure::Refused(refusal)),
+            Ok(Given::Left(n)) => write!(f, "taken {n}"),
+            Ok(Given::Used(Used { first, count })) => write!(f, "taken {first} {count}"),
+            Err(refusal) => write!(f, "{}", Failure::Refused(refusal)),
         }
     }
 }
@@ -55,11 +55,10 @@ impl fmt::Display for Told {
 fn show_calls(rt: &(impl Print + AllocGlobal), near: &End, far: &End) -> anyhow::Result<()> {
     let heap = rt.alloc();
     println!(rt; "call                at the transmitter    at the gateway")?;
-    let answers = near.answers.iter().zip(far.answers.iter());
-    for (call, (here, there)) in near.calls.iter().zip(answers) {
-        let call = Asked(call).to_string(heap)?;
-        let here = Told(*here).to_string(heap)?;
-        println!(rt; "{call:<18}  {here:<20}  {}", Told(*there))?;
+    for (here, there) in near.answered.iter().zip(far.answered.iter()) {
+        let call = Asked(&here.call).to_string(heap)?;
+        let told = Told(here.answer).to_string(heap)?;
+        println!(rt; "{call:<18}  {told:<20}  {}", Told(there.answer))?;
     }
     Ok(())
 }
@@ -86,8 +85,8 @@ pub fn show_delivery(rt: &(impl Print + AllocGlobal), delivery: &Delivery) -> an
     println!(rt; "both open at        {OPENING}")?;
     println!(rt;
         "route               {:<20}  {}",
-        delivery.from.text(),
-        delivery.to.text()
+        delivery.from,
+        delivery.to
     )?;
     println!(rt)?;
     show_calls(rt, near, far)?;
@@ -124,8 +123,8 @@ fn show_pair(rt: &impl Print, delivery: &Delivery) -> io::Result<()> {
     };
     println!(rt;
         "{:<11}  {:<11}  {} {}   {} {}   {came}",
-        delivery.from.text(),
-        delivery.to.text(),
+        delivery.from,
+        delivery.to,
         near.tally,
         far.tally,
         near.closed,

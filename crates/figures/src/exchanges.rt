@@ -1,7 +1,9 @@
 //! Exchanges of two ends, held against published values: the transmitter on each route in turn, the gateway on the bit tower.
 use crate::everywhere::on_every_route;
 use routes::{AnyRoute, Refusal, RouteName};
-use sessions::{BothEnds, COUNTERS, End, ExchangeError, SessionAnswer, SessionCall, exchange};
+use sessions::{
+    Agreement, BothEnds, COUNTERS, End, ExchangeError, Given, SessionCall, Used, exchange,
+};
 use std::alloc::{AllocError, Global};
 
 /// The prefix of the initial counter block in SP 800-38A, F.5.
@@ -20,16 +22,13 @@ fn exchanged(
     at: u64,
     calls: Vec<SessionCall>,
 ) -> Result<BothEnds, ExchangeError> {
-    exchange::<AnyRoute, AnyRoute>(
-        heap,
-        name,
-        RouteName::BitTower,
+    let agreement = Agreement {
         key,
-        &PREFIX,
-        Some(at),
-        0,
-        calls,
-    )
+        prefix: &PREFIX,
+        at: Some(at),
+        start: 0,
+    };
+    exchange::<AnyRoute, AnyRoute>(heap, name, RouteName::BitTower, agreement, calls)
 }
 
 /// Whether something holds of both ends of an exchange that was carried out.
@@ -44,7 +43,8 @@ fn of_both<F: Fn(&End) -> bool>(ran: Result<BothEnds, ExchangeError>, holds: F) 
 
 /// Whether the first call of an end left this run.
 fn left(end: &End, run: &[u8]) -> bool {
-    matches!(end.calls.first(), Some(SessionCall::Cover(bytes)) if bytes.as_slice() == run)
+    let first = end.answered.first().map(|answered| &answered.call);
+    matches!(first, Some(SessionCall::Cover(bytes)) if bytes.as_slice() == run)
 }
 
 /// Whether a run is covered to another on a route, and comes back at the gateway.
@@ -70,12 +70,14 @@ pub fn covers(heap: Global, key: &[u8], from: &[u8], to: &[u8]) -> Result<bool, 
 
 /// Whether an end answered that 4,096 numbers were used, and then refused a run of 65,537 bytes.
 fn took_the_longest(end: &End) -> bool {
-    end.answers.as_slice()
-        == [
-            SessionAnswer::Used(0, 4096),
-            SessionAnswer::Refused(Refusal::RunLength(65537)),
-        ]
-        .as_slice()
+    let used = Used {
+        first: 0,
+        count: 4096,
+    };
+    end.answered
+        .iter()
+        .map(|answered| answered.answer)
+        .eq([Ok(Given::Used(used)), Err(Refusal::RunLength(65537))])
 }
 
 /// Whether a run of 65,536 bytes takes 4,096 numbers on a route, and one of 65,537 is refused.
@@ -93,7 +95,7 @@ pub fn longest_runs(heap: Global) -> Result<bool, AllocError> {
 
 /// Whether an end answered that nothing remains.
 fn has_nothing_left(end: &End) -> bool {
-    end.answers.first() == Some(&SessionAnswer::Left(0))
+    end.answered.first().map(|answered| answered.answer) == Some(Ok(Given::Left(0)))
 }
 
 /// Whether a session opens at 2^32 on a route with nothing remaining, and is refused at 2^32 + 1 with that number.

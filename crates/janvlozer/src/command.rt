@@ -1,8 +1,10 @@
 //! What the words of the command line ask for.
+ghost use Rattle.std.specs.Prelude.{◌≡◌};
+ghost use Rattle.janvlozer.specs.declared.command.Misuse.TheVariants.{Route};
 ghost use Rattle.janvlozer.specs.Commands.{Alone, After, Turns, TurnsOn, Asked};
 
 use console::{Direction, byte};
-use routes::RouteName;
+use routes::{RouteName, UnknownRoute};
 use std::error::Error;
 use std::fmt;
 
@@ -53,6 +55,15 @@ impl fmt::Display for Misuse {
 
 impl Error for Misuse {}
 
+/// A word that names no route stands after `--route`.
+impl From<UnknownRoute> for Misuse {
+    ghost from_gives = { λ _ misuse. misuse ≡ Route };
+
+    fn from(_unknown: UnknownRoute) -> Misuse {
+        Misuse::Route
+    }
+}
+
 /// The command that the words make.
 pub fn parse(words: &[String]) -> Result<Command, Misuse>
     ensures { Asked words.now result }
@@ -97,7 +108,7 @@ fn turn_on(word: &str, flag: &str, name: &str) -> Result<Command, Misuse>
     if flag != "--route" {
         return Err(Misuse::Words);
     }
-    turn(word, RouteName::parse(name).ok_or(Misuse::Route)?)
+    turn(word, name.parse::<RouteName>()?)
 }
 
 /// The command of a word and a byte.

@@ -64,10 +64,9 @@ impl fmt::Display for Asking {
             before,
             after,
         } = *self;
-        let text = name.text();
         write!(
             f,
-            "{text:<11}  {trail}       {inverse:02X}  {before} → {after}"
+            "{name:<11}  {trail}       {inverse:02X}  {before} → {after}"
         )
     }
 }

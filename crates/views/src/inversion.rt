@@ -45,9 +45,8 @@ impl Inversion {
     fn product(&self) -> u8
         ensures { result ≡ (byte_product (byte self.now.byte) (byte self.now.bytes.inverse)).value }
     {
-        Byte::new(self.byte)
-            .product(Byte::new(self.bytes.inverse))
-            .to_u8()
+        u8::from(Byte::from(self.byte).product(Byte::from(self.bytes.inverse))
+            )
     }
 }
 

@@ -10,7 +10,6 @@ struct Account(RouteName);
 
 impl fmt::Display for Account {
     fn fmt<W: fmt::Write>(&self, f: &mut fmt::Formatter<W>) -> fmt::Result {
-        let text = self.0.text();
         let formula = match self.0 {
             RouteName::Power => "r = a·s·s + s with s = a^84, or s where r is 00",
             RouteName::Split =>
@@ -20,7 +19,7 @@ impl fmt::Display for Account {
             RouteName::NibblePair => "into the pairs over nibbles, inverted there, and back",
             RouteName::BitTower => "into the three pairs over bits, inverted there, and back",
         };
-        write!(f, "{text:<11}  {formula}")
+        write!(f, "{:<11}  {formula}", self.0)
     }
 }
 

@@ -48,19 +48,19 @@ impl fmt::Display for Trail {
     fn fmt<W: fmt::Write>(&self, f: &mut fmt::Formatter<W>) -> fmt::Result {
         match *self {
             Trail::ByPower(steps) => {
-                let s = steps.s.to_u8();
-                let r = steps.r.to_u8();
+                let s = u8::from(steps.s);
+                let r = u8::from(steps.r);
                 write!(f, "s {s:02X}  r {r:02X}                ")
             }
             Trail::BySplit(steps) => {
-                let b = steps.b.to_u8();
-                let b4 = steps.b4.to_u8();
-                let b8 = steps.b8.to_u8();
-                let t = steps.t.to_u8();
+                let b = u8::from(steps.b);
+                let b4 = u8::from(steps.b4);
+                let b8 = u8::from(steps.b8);
+                let t = u8::from(steps.t);
                 write!(f, "b {b:02X}  b^4 {b4:02X}  b^8 {b8:02X}  t {t:02X}")
             }
             Trail::ByTable(steps) => {
-                let b = steps.b.to_u8();
+                let b = u8::from(steps.b);
                 let index = steps.index;
                 let entry = steps.entry;
                 write!(f, "b {b:02X}  index {index:>2}  entry {entry:02X}  ")

@@ -43,7 +43,7 @@ impl fmt::Display for TurnedBlock {
             Direction::Decrypt => "decrypted",
         };
         let block = Hex(self.block.as_slice());
-        let route = self.route.text();
+        let route = self.route;
         let tally = self.tally;
         write!(f, "{done}  {block}  on route {route}, tally {tally}")
     }
