@@ -46,9 +46,6 @@ small-inv_affine = tt
 pub affine_lt : (n : ℕ) → n < 256 → affine n < 256
 affine_lt n h = ltb→lt _ _ (below_at 256 _ small-affine n h)
 
-pub inv_affine_lt : (n : ℕ) → n < 256 → inv_affine n < 256
-inv_affine_lt n h = ltb→lt _ _ (below_at 256 _ small-inv_affine n h)
-
 -- Where g takes back the bytes to which f takes bytes, so it does as a map of bytes.
 taken_back : (f g : ℕ → ℕ) → T (small f) → T (undone f g) → (b : Byte) → byte (g (byte (f b.value)).value) ≡ b
 taken_back f g s u b =

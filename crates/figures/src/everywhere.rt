@@ -2,7 +2,7 @@
 use routes::RouteName;
 
 /// Whether something holds on each of the five routes. The first error ends it.
-pub fn on_every_route<E, F: Fn(RouteName) -> Result<bool, E>>(holds: F) -> Result<bool, E>
+pub(crate) fn on_every_route<E, F: Fn(RouteName) -> Result<bool, E>>(holds: F) -> Result<bool, E>
     requires { F.IsAlwaysCallable holds }
 {
     for name in RouteName::ALL {

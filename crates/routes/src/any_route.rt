@@ -1,7 +1,9 @@
 //! A route that is chosen by name at run time.
 ghost use Rattle.std.specs.Prelude.{◌≡◌};
+ghost use Rattle.routes.specs.AnyRoutes.{formula_name};
 ghost use Rattle.routes.specs.Names.{name_text};
 
+use crate::any_formula::AnyFormula;
 use crate::field::FieldFormula;
 use crate::formula::Formula;
 use crate::metered::Metered;
@@ -9,34 +11,45 @@ use crate::name::RouteName;
 use crate::power::PowerFormula;
 use crate::split::SplitFormula;
 use crate::table::TableFormula;
-use fields::{BitTower, NibblePair};
 
 /// One of the five routes.
-pub type AnyRoute = Metered<RouteName>;
+pub type AnyRoute = Metered<AnyFormula>;
 
-/// The formula that a name stands for.
-impl Formula for RouteName {
+/// The formula of a name.
+impl Formula for AnyFormula {
     type Choice = RouteName;
 
-    ghost called = { name_text };
+    ghost called = { formula_name };
 
     ghost chosen = { name_text };
 
-    fn new(choice: RouteName) -> RouteName {
-        choice
+    fn new(choice: RouteName) -> AnyFormula {
+        match choice {
+            RouteName::Power => AnyFormula::ByPower(PowerFormula),
+            RouteName::Split => AnyFormula::BySplit(SplitFormula),
+            RouteName::Table => AnyFormula::ByTable(TableFormula),
+            RouteName::NibblePair => AnyFormula::ByPair(FieldFormula::new(())),
+            RouteName::BitTower => AnyFormula::ByTower(FieldFormula::new(())),
+        }
     }
 
     fn called(&self) -> &'static str {
-        self.text()
+        match self {
+            AnyFormula::ByPower(formula) => formula.called(),
+            AnyFormula::BySplit(formula) => formula.called(),
+            AnyFormula::ByTable(formula) => formula.called(),
+            AnyFormula::ByPair(formula) => formula.called(),
+            AnyFormula::ByTower(formula) => formula.called(),
+        }
     }
 
     fn inverse(&self, byte: u8) -> u8 {
         match self {
-            RouteName::Power => PowerFormula.inverse(byte),
-            RouteName::Split => SplitFormula.inverse(byte),
-            RouteName::Table => TableFormula.inverse(byte),
-            RouteName::NibblePair => FieldFormula::<NibblePair>::new(()).inverse(byte),
-            RouteName::BitTower => FieldFormula::<BitTower>::new(()).inverse(byte),
+            AnyFormula::ByPower(formula) => formula.inverse(byte),
+            AnyFormula::BySplit(formula) => formula.inverse(byte),
+            AnyFormula::ByTable(formula) => formula.inverse(byte),
+            AnyFormula::ByPair(formula) => formula.inverse(byte),
+            AnyFormula::ByTower(formula) => formula.inverse(byte),
         }
     }
 }

@@ -4,6 +4,7 @@
 
 mod additive_power;
 mod agreement;
+mod any_formula;
 mod any_route;
 mod field;
 mod formula;
@@ -19,6 +20,7 @@ mod table;
 mod tests;
 
 pub use agreement::{formulas_agree, route_figures};
+pub use any_formula::AnyFormula;
 pub use any_route::AnyRoute;
 pub use field::{ByBitTower, ByNibblePair, FieldFormula, FieldSteps, NamedField, field_steps};
 pub use formula::Formula;

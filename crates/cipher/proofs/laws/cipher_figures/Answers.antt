@@ -1,4 +1,4 @@
-use Rattle.std.proofs.Common.{◌+◌, ◌++◌, refl, ap}
+use Rattle.std.proofs.Common.{◌++◌, refl}
 use Rattle.fields.proofs.FigureLists.{come_out_both}
 use Rattle.fields.specs.Bytes.{byte}
 use Rattle.fields.specs.Figures.{ComeOut, field_figures}
@@ -13,9 +13,5 @@ computed : ComeOut cipher_figures
 unfolding byte power product_modulo carryless remainder coefficient s_box affine from_bits word_at word_bytes mix_column
 computed = (refl, (refl, tt))
 
-pub returns : goal.returns
-returns c =
-    record {
-      count = ap (λ n. n + 2) c.«route_figures».ensures.count;
-      hold = come_out_both (field_figures ++ route_figures) cipher_figures c.«route_figures».ensures.hold computed;
-    }
+pub returns-clause-hold : goal.returns-clause-hold
+returns-clause-hold c = come_out_both (field_figures ++ route_figures) cipher_figures c.«route_figures».ensures.hold computed
