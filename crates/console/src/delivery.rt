@@ -87,10 +87,12 @@ fn second_run(end: &End) -> &[u8]
     ensures { result.now ≡ second_run (calls_left end.now.answered.items) }
 {
     match end.answered.get(1) {
-        Some(Answered {
-            call: SessionCall::Cover(run),
-            answer: _,
-        }) => run.as_slice(),
+        Some(
+            Answered {
+                call: SessionCall::Cover(run),
+                answer: _,
+            },
+        ) => run.as_slice(),
         _ => &[],
     }
 }

@@ -85,8 +85,7 @@ pub fn show_delivery(rt: &(impl Print + AllocGlobal), delivery: &Delivery) -> an
     println!(rt; "both open at        {OPENING}")?;
     println!(rt;
         "route               {:<20}  {}",
-        delivery.from,
-        delivery.to
+        delivery.from, delivery.to
     )?;
     println!(rt)?;
     show_calls(rt, near, far)?;
@@ -123,11 +122,6 @@ fn show_pair(rt: &impl Print, delivery: &Delivery) -> io::Result<()> {
     };
     println!(rt;
         "{:<11}  {:<11}  {} {}   {} {}   {came}",
-        delivery.from,
-        delivery.to,
-        near.tally,
-        far.tally,
-        near.closed,
-        far.closed
+        delivery.from, delivery.to, near.tally, far.tally, near.closed, far.closed
     )
 }

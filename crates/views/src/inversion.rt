@@ -45,8 +45,7 @@ impl Inversion {
     fn product(&self) -> u8
         ensures { result ≡ (byte_product (byte self.now.byte) (byte self.now.bytes.inverse)).value }
     {
-        u8::from(Byte::from(self.byte).product(Byte::from(self.bytes.inverse))
-            )
+        u8::from(Byte::from(self.byte).product(Byte::from(self.bytes.inverse)))
     }
 }
 
