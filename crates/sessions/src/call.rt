@@ -28,6 +28,8 @@ pub type SessionAnswer = Result<Given, Refusal>;
 /// A call that was carried out, with its run as it was left, and its answer.
 #[derive(Drop)]
 pub struct Answered {
+    /// The call.
     pub call: SessionCall,
+    /// Its answer.
     pub answer: SessionAnswer,
 }

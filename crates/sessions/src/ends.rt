@@ -17,7 +17,9 @@ pub mod error;
 /// What both ends have to show after an exchange.
 #[derive(Drop)]
 pub struct BothEnds {
+    /// The end that was passed the calls.
     pub transmitter: End,
+    /// The end that was fed what the transmitter left.
     pub gateway: End,
 }
 

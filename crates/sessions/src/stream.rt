@@ -22,6 +22,7 @@ fn add(part: &mut [u8], pad: &[u8; 16])
     requires { length part.old ≤ 16 }
     ensures { part.new ≡ plus part.old pad.now }
 {
+    // A `zip` with the pad does not say what the part ends as.
     for (i, byte) in part.iter_mut().enumerate() {
         *byte ^= pad[i];
     }
