@@ -38,6 +38,7 @@ impl Desk {
         ensures done { CarriedOut self.old command self.new result }
         ensures laws { SessionLaws }
     {
+        // A match and no table of functions: the commands carry values of different types.
         match command {
             Command::MakeRoute(name, start) => self.make(name, start),
             Command::OpenSession(prefix, at) => self.open(prefix.as_slice(), at),

@@ -14,6 +14,7 @@ pub fn show(
     command: Command,
     words: &[String],
 ) -> anyhow::Result<()> {
+    // A match and no table of functions: the commands carry values of different types.
     match command {
         Command::Demonstration => show_demonstration(rt)?,
         Command::Invert(byte) => rt.println(Inverted(byte))?,

@@ -33,6 +33,7 @@ impl Trail {
         ensures route { route_of result ≡ name }
         ensures steps { Goes a result }
     {
+        // A match and no table of functions: the steps of each formula have a type of their own.
         match name {
             RouteName::Power => Trail::ByPower(PowerFormula::steps(a)),
             RouteName::Split => Trail::BySplit(SplitFormula::steps(a)),
