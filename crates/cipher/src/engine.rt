@@ -48,6 +48,7 @@ impl<R: Route> Engine<R> {
 
     /// The headroom for blocks: how many rounds each takes under the key set, and how many inversions are left until the tally is 2^40; or none where
     /// no key is set.
+    // A pair and no struct: its one caller takes it apart at once.
     pub fn headroom(&self) -> Option<(u64, u64)>
         ensures { Headroom (engine_key self.now) (R.Route.tally self.now.route) result }
     {

@@ -21,7 +21,7 @@ fn one_round<R: Route>(route: &mut R, key: State, s: State) -> State
     add_round_key(mix_columns(shift_rows(sub_bytes::<SBox, R>(route, s))), key)
 }
 
-/// One of the rounds of the inverse cipher before its last.
+/// One of the rounds of the inverse cipher before its last. The standard has its steps in another order, so it is no twin of `one_round`.
 fn one_round_back<R: Route>(route: &mut R, key: State, s: State) -> State
     requires { CanAsk R.Route.tally route.old 1 }
     ensures value { columns_state result ≡ inv_mix_columns (add_round_key (inv_sub_bytes (inv_shift_rows (columns_state s))) (columns_state key)) }

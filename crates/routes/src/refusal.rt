@@ -29,7 +29,7 @@ pub enum Refusal {
 }
 
 impl Refusal {
-    /// Which refusal this is, from 1 to 9.
+    /// Which refusal this is, from 1 to 9: scripts and C programs are told it by this number.
     pub fn number(self) -> u64
         ensures { result ≡ number self }
     {

@@ -2,7 +2,7 @@
 ghost use Rattle.std.specs.Prelude.{◌≡◌, ◌*◌, ◌<◌, if◌then◌else◌, nat_eq};
 ghost use Rattle.fields.specs.Polynomials.{coefficient};
 
-/// The byte where it is wanted, and else 00.
+/// The byte where it is wanted, and else 00. `fields` has its own, which takes a bit as a number, so that no comparison stands in its loop.
 pub(crate) fn keep(byte: u8, wanted: bool) -> u8
     ensures { result ≡ (if wanted then byte else 0) }
 {
