@@ -31,7 +31,7 @@ fn one_round_back<R: Route>(route: &mut R, key: State, s: State) -> State
     inv_mix_columns(add_round_key(t, key))
 }
 
-/// A direction of the cipher: CIPHER or INVCIPHER.
+/// A direction of the cipher: CIPHER or INVCIPHER. Each has its own loop: one goes over the round keys backwards, with its steps in another order.
 pub(crate) trait Direction {
     ghost turned: { State → ℕ → List Word → State };
 
@@ -54,6 +54,7 @@ impl Direction for Cipher {
         };
         let mut t = add_round_key(s, *first);
         for key in inner {
+            // By a variable: a result put straight into `t` is not covered by the borrow checker.
             let next = one_round(route, *key, t);
             t = next;
         }

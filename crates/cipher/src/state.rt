@@ -42,7 +42,7 @@ pub(crate) fn to_bytes(s: State) -> [u8; 16]
     let b = plain(s[1]);
     let c = plain(s[2]);
     let d = plain(s[3]);
-    // Written out: a copy of `as_flattened` takes 26 instructions more for a byte of a run.
+    // Written out: with a copy of `as_flattened` a byte of a run takes 26 instructions more, 533 on the bit tower, where plain C takes 505.
     [
         a[0], a[1], a[2], a[3], b[0], b[1], b[2], b[3], c[0], c[1], c[2], c[3], d[0], d[1], d[2],
         d[3],

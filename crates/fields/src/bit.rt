@@ -1,4 +1,4 @@
-ghost use Rattle.fields.specs.Bits.{bit, bit_sum, bit_product, bit_same};
+ghost use Rattle.fields.specs.Bits.{bit, bit_sum, bit_product};
 ghost use Rattle.std.specs.Prelude.{true, false};
 ghost use Rattle.fields.specs.BitLaws.{bit_laws};
 
@@ -7,6 +7,7 @@ use crate::field::Field;
 /// A bit.
 #[derive(Clone, Copy, PartialEq, Eq, Debug)]
 pub struct Bit {
+    /// Whether it is 1.
     pub value: bool,
 }
 

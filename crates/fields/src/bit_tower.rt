@@ -26,7 +26,8 @@ const ROWS: [u8; 8] = [0x03, 0x34, 0x9C, 0x68, 0x70, 0x0C, 0xDE, 0xA0];
 /// The columns of the way back, transposed.
 const BACK_ROWS: [u8; 8] = [0xF1, 0xF0, 0xA6, 0x86, 0x9E, 0x3A, 0xB4, 0xBA];
 
-/// The pair of bits that the two lowest bits of `n` are read as.
+/// The pair of bits that the two lowest bits of `n` are read as. This and what follows are one function for each level, over `from_digits` and
+/// `digits`: a trait for all levels would need the size of a level as a const that is computed from the one below.
 fn two(n: u8) -> Pair<Bit>
     ensures { result ≡ make_pair make_bit 2 n }
 {
@@ -63,7 +64,8 @@ fn read_four(p: Pair<Pair<Bit>>) -> u8
     p.digits(4, read_two)
 }
 
-/// One impl for each pile: they share `image`, and what is left differs in its tables and in what its contracts say of them.
+/// One impl for each pile: they share `image`, and what is left are the tables and clauses on them, which a generic impl would have to turn into
+/// ghost members of one more trait.
 impl ByteMap for Pair<Pair<Pair<Bit>>> {
     ghost into = { into_tower };
 

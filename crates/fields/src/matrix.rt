@@ -3,7 +3,7 @@ ghost use Rattle.std.specs.Prelude.{◌≡◌};
 ghost use Rattle.fields.specs.Matrices.{by_rows, parity};
 
 /// The parity of the ones in `byte` masked by `row`.
-pub(crate) fn parity(row: u8, byte: u8) -> u8
+fn parity(row: u8, byte: u8) -> u8
     ensures { result ≡ parity row byte }
 {
     ((byte & row).count_ones() % 2) as u8

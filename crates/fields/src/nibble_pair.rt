@@ -33,7 +33,8 @@ fn split(byte: u8) -> NibblePair
     Pair::from_digits(byte, 16, Nibble::low)
 }
 
-/// One impl for each pile: they share `image`, and what is left differs in its tables and in what its contracts say of them.
+/// One impl for each pile: they share `image`, and what is left are the tables and clauses on them, which a generic impl would have to turn into
+/// ghost members of one more trait.
 impl ByteMap for Pair<Nibble> {
     ghost into = { into_nibbles };
 

@@ -1,7 +1,7 @@
 //! The quadratic extension of a field by a root of X·X = X + marker.
 
 ghost use Rattle.std.specs.Prelude.{◌≡◌, ℕ, ◌+◌, ◌*◌, ◌/◌, ◌%◌, ◌<◌, ◌≤◌};
-ghost use Rattle.fields.specs.Pairs.{pair_zero, pair_one, pair_marker, pair_sum, pair_product, pair_norm, pair_inverse, pair_same};
+ghost use Rattle.fields.specs.Pairs.{pair_zero, pair_one, pair_marker, pair_sum, pair_product, pair_norm, pair_inverse};
 ghost use Rattle.fields.specs.PairLaws.{pair_laws};
 
 use crate::field::Field;
@@ -9,7 +9,9 @@ use crate::field::Field;
 /// The element `high`·X + `low`, where X·X = X + marker.
 #[derive(Clone, Copy, PartialEq, Eq, Debug)]
 pub struct Pair<F> {
+    /// What stands with X.
     pub high: F,
+    /// What stands alone.
     pub low: F,
 }
 

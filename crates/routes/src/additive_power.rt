@@ -34,7 +34,7 @@ impl AdditivePower {
 }
 
 /// The sum of the columns at which the byte has a bit.
-fn sum_of_columns(columns: &[u8; 8], byte: u8) -> u8
+pub(crate) fn sum_of_columns(columns: &[u8; 8], byte: u8) -> u8
     ensures { result ≡ by_columns columns.now byte }
 {
     let mut sum = 0;

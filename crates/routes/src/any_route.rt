@@ -15,7 +15,7 @@ use crate::table::TableFormula;
 /// One of the five routes.
 pub type AnyRoute = Metered<AnyFormula>;
 
-/// The formula of a name. An enum and no `dyn`: the five are all there are, and a box would need the heap.
+/// The formula of a name. An enum and no `dyn`: the five are all there are, and a `dyn` may not be handed out by a function that makes it.
 impl Formula for AnyFormula {
     type Choice = RouteName;
 

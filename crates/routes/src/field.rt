@@ -1,10 +1,13 @@
 //! The route by way of a field that a map joins to the byte field.
-ghost use Rattle.std.specs.Prelude.{◌≡◌, ℕ, List, codes};
+ghost use Rattle.std.specs.Prelude.{◌≡◌, ℕ, List};
 ghost use Rattle.fields.specs.Bytes.{byte};
 ghost use Rattle.routes.specs.Inverting.{Inverts};
+ghost use Rattle.routes.specs.Names.{name_text};
+ghost use Rattle.routes.specs.declared.name.RouteName.TheVariants.{NibblePair, BitTower};
 
 use crate::formula::Formula;
 use crate::metered::Metered;
+use crate::name::RouteName;
 use fields::{BitTower, Byte, ByteMap, Field, NibblePair};
 use std::marker::PhantomData;
 
@@ -23,8 +26,11 @@ pub type ByBitTower = Metered<FieldFormula<BitTower>>;
 /// What the formula goes through: the image and its inverse, read as bytes.
 #[derive(Clone, Copy)]
 pub struct FieldSteps {
+    /// The image of the byte.
     pub image: u8,
+    /// The image's inverse.
     pub image_inverse: u8,
+    /// What that maps back to: the inverse of the byte.
     pub inverse: u8,
 }
 
@@ -38,18 +44,18 @@ pub trait NamedField: ByteMap {
 }
 
 impl NamedField for NibblePair {
-    ghost titled = { codes "nibble-pair" };
+    ghost titled = { name_text NibblePair };
 
     fn title() -> &'static str {
-        "nibble-pair"
+        RouteName::NibblePair.text()
     }
 }
 
 impl NamedField for BitTower {
-    ghost titled = { codes "bit-tower" };
+    ghost titled = { name_text BitTower };
 
     fn title() -> &'static str {
-        "bit-tower"
+        RouteName::BitTower.text()
     }
 }
 

@@ -10,6 +10,8 @@ mod field;
 mod formula;
 mod metered;
 mod name;
+mod nibble_pair;
+mod packed_tower;
 mod power;
 mod refusal;
 mod route;

@@ -9,10 +9,15 @@ use std::str::FromStr;
 /// The name of a route.
 #[derive(Clone, Copy, PartialEq, Eq, Debug)]
 pub enum RouteName {
+    /// By powers.
     Power,
+    /// By splitting off the subfield of sixteen elements.
     Split,
+    /// By a table of sixteen bytes.
     Table,
+    /// By way of the pair over nibbles.
     NibblePair,
+    /// By way of three pairs over bits.
     BitTower,
 }
 

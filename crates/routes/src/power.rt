@@ -1,12 +1,15 @@
 //! The route by powers.
-ghost use Rattle.std.specs.Prelude.{◌≡◌, codes};
+ghost use Rattle.std.specs.Prelude.{◌≡◌};
 ghost use Rattle.fields.specs.Bytes.{byte};
 ghost use Rattle.routes.specs.Formulas.{byte_power, twisted};
 ghost use Rattle.routes.specs.Inverting.{Inverts};
+ghost use Rattle.routes.specs.Names.{name_text};
+ghost use Rattle.routes.specs.declared.name.RouteName.TheVariants.{Power};
 
 use crate::additive_power::AdditivePower;
 use crate::formula::Formula;
 use crate::metered::Metered;
+use crate::name::RouteName;
 use crate::select::or_else;
 use fields::{Byte, Field};
 
@@ -20,8 +23,11 @@ pub type Power = Metered<PowerFormula>;
 /// What the formula goes through.
 #[derive(Clone, Copy)]
 pub struct PowerSteps {
+    /// a^84.
     pub s: Byte,
+    /// a·s·s + s.
     pub r: Byte,
+    /// The inverse of a.
     pub inverse: u8,
 }
 
@@ -58,16 +64,16 @@ impl PowerFormula {
 impl Formula for PowerFormula {
     type Choice = ();
 
-    ghost called = { λ _. codes "power" };
+    ghost called = { λ _. name_text Power };
 
-    ghost chosen = { λ _. codes "power" };
+    ghost chosen = { λ _. name_text Power };
 
     fn new(_choice: ()) -> PowerFormula {
         PowerFormula
     }
 
     fn called(&self) -> &'static str {
-        "power"
+        RouteName::Power.text()
     }
 
     fn inverse(&self, byte: u8) -> u8 {

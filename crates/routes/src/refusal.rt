@@ -52,10 +52,10 @@ impl Refusal {
     {
         match self {
             Refusal::NoKey => 0,
-            Refusal::Remaining(n) => n,
             Refusal::KeyLength(n)
             | Refusal::BlockLength(n)
             | Refusal::RunLength(n)
+            | Refusal::Remaining(n)
             | Refusal::Inversions(n)
             | Refusal::PrefixLength(n)
             | Refusal::OpeningNumber(n)

@@ -1,12 +1,15 @@
 //! The route that splits off the subfield of sixteen elements.
-ghost use Rattle.std.specs.Prelude.{◌≡◌, codes};
+ghost use Rattle.std.specs.Prelude.{◌≡◌};
 ghost use Rattle.fields.specs.Bytes.{byte, byte_sum, byte_product};
 ghost use Rattle.routes.specs.Formulas.{byte_power, by_bits, fourth, eighth};
 ghost use Rattle.routes.specs.Inverting.{Inverts};
+ghost use Rattle.routes.specs.Names.{name_text};
+ghost use Rattle.routes.specs.declared.name.RouteName.TheVariants.{Split};
 
 use crate::additive_power::AdditivePower;
 use crate::formula::Formula;
 use crate::metered::Metered;
+use crate::name::RouteName;
 use crate::select::{bit, keep, or_else};
 use fields::{Byte, Field};
 
@@ -20,10 +23,15 @@ pub type Split = Metered<SplitFormula>;
 /// What the formula goes through.
 #[derive(Clone, Copy)]
 pub struct SplitSteps {
+    /// a^17.
     pub b: Byte,
+    /// b^4.
     pub b4: Byte,
+    /// b^8.
     pub b8: Byte,
+    /// b·b^8 + b^4.
     pub t: Byte,
+    /// The inverse of a.
     pub inverse: u8,
 }
 
@@ -63,16 +71,16 @@ impl SplitFormula {
 impl Formula for SplitFormula {
     type Choice = ();
 
-    ghost called = { λ _. codes "split" };
+    ghost called = { λ _. name_text Split };
 
-    ghost chosen = { λ _. codes "split" };
+    ghost chosen = { λ _. name_text Split };
 
     fn new(_choice: ()) -> SplitFormula {
         SplitFormula
     }
 
     fn called(&self) -> &'static str {
-        "split"
+        RouteName::Split.text()
     }
 
     fn inverse(&self, byte: u8) -> u8 {

@@ -1,12 +1,15 @@
 //! The route by a table of sixteen bytes.
-ghost use Rattle.std.specs.Prelude.{◌≡◌, ◌<◌, cond, codes, slice_index};
+ghost use Rattle.std.specs.Prelude.{◌≡◌, ◌<◌, cond, slice_index};
 ghost use Rattle.fields.specs.Bytes.{byte};
 ghost use Rattle.routes.specs.Formulas.{byte_power, table_index, inverse_table};
 ghost use Rattle.routes.specs.Inverting.{Inverts};
+ghost use Rattle.routes.specs.Names.{name_text};
+ghost use Rattle.routes.specs.declared.name.RouteName.TheVariants.{Table};
 
 use crate::additive_power::AdditivePower;
 use crate::formula::Formula;
 use crate::metered::Metered;
+use crate::name::RouteName;
 use crate::select::{bit, keep};
 use fields::{Byte, Field};
 
@@ -20,9 +23,13 @@ pub type Table = Metered<TableFormula>;
 /// What the formula goes through.
 #[derive(Clone, Copy)]
 pub struct TableSteps {
+    /// a^17.
     pub b: Byte,
+    /// Where the inverse of b stands in the table.
     pub index: u8,
+    /// What stands there.
     pub entry: u8,
+    /// The inverse of a.
     pub inverse: u8,
 }
 
@@ -76,16 +83,16 @@ impl TableFormula {
 impl Formula for TableFormula {
     type Choice = ();
 
-    ghost called = { λ _. codes "table" };
+    ghost called = { λ _. name_text Table };
 
-    ghost chosen = { λ _. codes "table" };
+    ghost chosen = { λ _. name_text Table };
 
     fn new(_choice: ()) -> TableFormula {
         TableFormula
     }
 
     fn called(&self) -> &'static str {
-        "table"
+        RouteName::Table.text()
     }
 
     fn inverse(&self, byte: u8) -> u8 {

@@ -1,6 +1,6 @@
 //! The byte field.
 ghost use Rattle.std.specs.Prelude.{◌≡◌};
-ghost use Rattle.fields.specs.Bytes.{byte, byte_sum, byte_product, byte_inverse, byte_same};
+ghost use Rattle.fields.specs.Bytes.{byte, byte_sum, byte_product, byte_inverse};
 ghost use Rattle.fields.specs.WordLaws.{byte_laws};
 
 use crate::byte::Byte;

@@ -1,6 +1,6 @@
 //! The nibble field.
 ghost use Rattle.std.specs.Prelude.{◌≡◌, ◌/◌};
-ghost use Rattle.fields.specs.Nibbles.{nibble, nibble_sum, nibble_product, nibble_inverse, nibble_same};
+ghost use Rattle.fields.specs.Nibbles.{nibble, nibble_sum, nibble_product, nibble_inverse};
 ghost use Rattle.fields.specs.WordLaws.{nibble_laws};
 
 use crate::field::Field;
