@@ -1,14 +1,13 @@
 -- MIXCOLUMNS at a column as one additive map of numbers of 32 bits. Assumes nothing.
-use Rattle.std.proofs.Common.{◌≡◌, ℕ, ◌+◌, ◌*◌, ◌/◌, ◌%◌, ◌^◌, ◌<◌, Bool, T, eqb, List, [], ◌∷◌, get_or, sym, ap, ◌∙◌, arith, eqb→eq}
-use native.Mathlib.Nat.{mod-mod}
-use lib.Bits.{bit_xor, xor_mod}
+use Rattle.std.proofs.Common.{◌≡◌, ℕ, ◌+◌, ◌*◌, ◌/◌, ◌%◌, ◌^◌, ◌<◌, Bool, T, eqb, List, [], ◌∷◌, get_or, ap, ◌∙◌, arith, eqb→eq}
+use lib.Bits.{bit_xor}
 use Rattle.fields.specs.Bytes.{byte, byte_sum}
 use Rattle.fields.specs.Laws.{FieldLaws}
 use Rattle.fields.specs.Polynomials.{coefficient, carryless, remainder, product_modulo}
 use Rattle.fields.specs.declared.byte.Byte.{Byte}
 use Rattle.fields.specs.Additive.{Additive, agree, below, below_at}
 use Rattle.fields.specs.FieldFacts.{ring}
-use Rattle.fields.specs.WordLaws.{byte_laws, byte_path}
+use Rattle.fields.specs.WordLaws.{byte_laws, byte_path, byte-xor}
 use Rattle.cipher.specs.Fips197.{Word, word_of, word, word_at, word_bytes, mix_column}
 use Rattle.cipher.proofs.Lists.{four}
 use Rattle.cipher.proofs.Additions.{Map, as_it_is, shr, shl, mask, sum_of, then}
@@ -47,10 +46,6 @@ at i v = byte (v / 2 ^ i)
 
 abbrev pub column : ℕ → Word
 column v = word_of (low v) (at 8 v) (at 16 v) (at 24 v)
-
-byte-xor : (a b : ℕ) → byte (bit_xor a b) ≡ byte_sum (byte a) (byte b)
-unfolding byte
-byte-xor a b = byte_path _ _ (xor_mod a b 8 ∙ sym (ap (λ n. n % 256) (sym (xor_mod a b 8)) ∙ mod-mod (bit_xor a b) 256 ∙ xor_mod a b 8))
 
 low_additive : (f : Map) → Additive byte_sum (λ v. low (f.map v))
 low_additive f a b = ap byte (f.adds a b) ∙ byte-xor (f.map a) (f.map b)

@@ -1,8 +1,9 @@
 -- The nibble and the byte are such words, and their polynomials and markers pass the tests. Assumes nothing.
-use Rattle.std.specs.Prelude.{◌≡◌, ℕ, zero, suc, ◌<◌, ◌≤◌, T, ◌≢◌, bit_xor, nat_lt, refl}
+use Rattle.std.specs.Prelude.{◌≡◌, ℕ, zero, suc, ◌%◌, ◌<◌, ◌≤◌, T, ◌≢◌, bit_xor, nat_lt, refl}
 use Rattle.std.proofs.Common.{sym, ap, ap₂, ◌∙◌, arith, mod-eq_of_lt, ltb→lt, lit<, lit≤}
 use mathlib.Core.HLevel.{is_prop→PathP}
-use Rattle.std.proofs.lemmas.Nat.{xor_lt}
+use Rattle.std.proofs.lemmas.Nat.{xor_lt, xor_mod}
+use Rattle.std.proofs.Math.Nat.{mod-mod}
 use Rattle.std.proofs.Math.Dec.{T_prop}
 use Rattle.fields.specs.Laws.{FieldLaws}
 use Rattle.fields.specs.Polynomials.{coefficient, carryless, remainder, product_modulo, Degree}
@@ -30,6 +31,11 @@ byte-value n h = mod-eq_of_lt h
 
 pub byte_of-value : (b : Byte) → byte b.value ≡ b
 byte_of-value b = byte_path (byte b.value) b (byte-value b.value (value_lt b))
+
+-- The byte of a sum is the sum of the bytes.
+pub byte-xor : (a b : ℕ) → byte (bit_xor a b) ≡ byte_sum (byte a) (byte b)
+unfolding byte
+byte-xor a b = byte_path _ _ (xor_mod a b 8 ∙ sym (ap (λ n. n % 256) (sym (xor_mod a b 8)) ∙ mod-mod (bit_xor a b) 256 ∙ xor_mod a b 8))
 
 -- The sum of two bytes, as numbers.
 pub sum-value : (a b : ℕ) → a < 256 → b < 256 → (byte_sum (byte a) (byte b)).value ≡ bit_xor a b

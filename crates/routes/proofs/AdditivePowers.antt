@@ -1,7 +1,6 @@
 -- Powers whose exponent is a power of two carry sums to sums, so their values at 01, 02, 04, .. 80 tell all others. Assumes nothing.
-use Rattle.std.proofs.Common.{◌≡◌, ℕ, zero, suc, ◌+◌, ◌*◌, ◌%◌, ◌^◌, Bool, T, eqb, List, [], ◌∷◌, get_or, sym, refl, ap, ◌∙◌, add-one, eqb→eq}
-use native.Mathlib.Nat.{mod-mod}
-use lib.Bits.{bit_xor, xor_mod}
+use Rattle.std.proofs.Common.{◌≡◌, ℕ, zero, suc, ◌+◌, ◌*◌, ◌^◌, Bool, T, eqb, List, [], ◌∷◌, get_or, sym, refl, ap, ◌∙◌, add-one, eqb→eq}
+use lib.Bits.{bit_xor}
 use Rattle.fields.specs.Bytes.{byte, byte_sum, byte_product}
 use Rattle.fields.specs.Laws.{FieldLaws}
 use Rattle.fields.specs.Matrices.{first_columns, by_columns}
@@ -11,7 +10,7 @@ use Rattle.fields.specs.Additive.{agree, below, below_at}
 use Rattle.fields.specs.FieldFacts.{ring}
 use Rattle.fields.specs.Joins.{columns_additive}
 use Rattle.fields.specs.PowersLemmas.{first_power, joined_powers}
-use Rattle.fields.specs.WordLaws.{byte_laws, byte_path, byte_of-value, value_lt}
+use Rattle.fields.specs.WordLaws.{byte_laws, byte_path, byte_of-value, value_lt, byte-xor}
 use Rattle.routes.specs.Formulas.{byte_power}
 
 -- One column more.
@@ -35,14 +34,6 @@ square_in laws a b = simp (ring, laws)
 squared-sum : (k : ℕ) (a b : Byte) → squared k (byte_sum a b) ≡ byte_sum (squared k a) (squared k b)
 squared-sum zero a b = refl
 squared-sum (suc k) a b = ap square (squared-sum k a b) ∙ square_in byte_laws (squared k a) (squared k b)
-
--- The byte of a sum is the sum of the bytes.
-byte-xor : (a b : ℕ) → byte (bit_xor a b) ≡ byte_sum (byte a) (byte b)
-unfolding byte
-byte-xor a b = byte_path _ _ (xor_mod a b 8 ∙ sym (mod_mod_of_xor))
-  where
-    mod_mod_of_xor : bit_xor (a % 256) (b % 256) % 256 ≡ bit_xor (a % 256) (b % 256)
-    mod_mod_of_xor = ap (λ n. n % 256) (sym (xor_mod a b 8)) ∙ mod-mod (bit_xor a b) 256 ∙ xor_mod a b 8
 
 -- ---- by columns
 
