@@ -8,7 +8,7 @@ use Rattle.sessions.specs.Counters.{counter_block, ctr}
 use Rattle.sessions.specs.Exchanges.{set_up_verdict, held_at_end}
 use Rattle.sessions.specs.Histories.{SetUp, encrypted}
 use Rattle.sessions.specs.Places.{Account, Ran}
-use Rattle.embed.specs.Replies.{left_by, unknown_route}
+use Rattle.embed.specs.Replies.{left_by, OnNumber}
 use Rattle.embed.specs.declared.reply.Reply.{Reply}
 
 -- ---- what is answered, from lengths and numbers alone
@@ -76,5 +76,4 @@ pub record CoverReplied (u : SetUp) (run : List ℕ) (reply : Reply) (run' : Lis
 
 -- On the route that a number names; where it names none, nothing is altered.
 abbrev pub CoverAnswered : Option RouteName → ℕ → SetUp → List ℕ → Reply → List ℕ → Type 0
-CoverAnswered (Some name) number u run reply run' = CoverReplied u run reply run'
-CoverAnswered None number u run reply run' = (reply ≡ unknown_route number u.starting) × (run' ≡ run)
+CoverAnswered named number u run reply run' = OnNumber named number u.starting (CoverReplied u run) run reply run'

@@ -6,7 +6,7 @@ use Rattle.routes.specs.Routes.{cap}
 use Rattle.routes.specs.declared.name.RouteName.{RouteName}
 use Rattle.routes.specs.declared.refusal.Refusal.{Refusal}
 use Rattle.sessions.specs.Calls.{gives_both, refused}
-use Rattle.embed.specs.Replies.{left_by, unknown_route}
+use Rattle.embed.specs.Replies.{left_by, OnNumber}
 use Rattle.embed.specs.declared.reply.Reply.{Reply}
 
 -- Why n bytes are not inverted at a tally: 3 with n, then 6 with the inversions that are left; or they are.
@@ -38,5 +38,4 @@ pub record Inverted (start : ℕ) (before : List ℕ) (r : Result ℕ Refusal) (
 
 -- On the route that a number names; where it names none, nothing is altered.
 abbrev pub InvertAnswered : Option RouteName → ℕ → ℕ → List ℕ → Reply → List ℕ → Type 0
-InvertAnswered (Some name) number start before reply after = InvertReplied start before reply after
-InvertAnswered None number start before reply after = (reply ≡ unknown_route number start) × (after ≡ before)
+InvertAnswered named number start before reply after = OnNumber named number start (InvertReplied start before) before reply after

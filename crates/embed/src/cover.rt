@@ -17,6 +17,8 @@ fn cover_through<R: Route>(
 ) -> Result<Used, Refusal>
     ensures { Covered (agreed agreement.entry (R.Route.tally engine.old.route)) run.old (numbers_given result) (R.Route.tally engine.new.route) run.new }
 {
+    // The end of an exchange sets a key and opens and closes a session around its calls in the same way. One frame for both would take a closure over
+    // session and engine, with all that a call promises of them in its clauses, and be no plainer than these four calls.
     engine.set_key(agreement.key)?;
     let mut session = Session::open(agreement.prefix, agreement.at)?;
     let mut pad = [0; 16];

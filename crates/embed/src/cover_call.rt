@@ -5,9 +5,8 @@ ghost use Rattle.embed.specs.Covers.{CoverAnswered};
 ghost use Rattle.routes.specs.Names.{route_at};
 
 use crate::cover::Cover;
-use crate::on_route::on_named;
+use crate::on_route::on_numbered;
 use crate::reply::Reply;
-use routes::RouteName;
 use sessions::Agreement;
 
 /// Covers or uncovers a run in place on the route of a number, in a session that opens at a counter number, and gives the status that it leaves in
@@ -31,10 +30,5 @@ pub extern "C" fn janvlozer_cover(
         at: Some(number),
         start,
     };
-    let left = match RouteName::try_from(route) {
-        Ok(name) => on_named(name, Cover { agreement }, run),
-        Err(_) => Reply::unknown_route(route, start),
-    };
-    *reply = left;
-    left.status
+    on_numbered(route, start, Cover { agreement }, run, reply)
 }

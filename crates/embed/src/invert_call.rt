@@ -4,9 +4,8 @@ ghost use Rattle.embed.specs.Inversions.{InvertAnswered};
 ghost use Rattle.routes.specs.Names.{route_at};
 
 use crate::invert::Invert;
-use crate::on_route::on_named;
+use crate::on_route::on_numbered;
 use crate::reply::Reply;
-use routes::RouteName;
 
 /// Replaces each of sixteen bytes by its inverse on the route of a number, and gives the status that it leaves in the reply. Refused, with the
 /// bytes as they were: 255 with the route's number where it names none; then 9 with the starting tally, 3 with the length, 6 with 0.
@@ -20,10 +19,5 @@ pub extern "C" fn janvlozer_invert(
     ensures answered { InvertAnswered (route_at route) route start bytes.old reply.new bytes.new }
     ensures status { result ≡ reply.new.status }
 {
-    let left = match RouteName::try_from(route) {
-        Ok(name) => on_named(name, Invert { start }, bytes),
-        Err(_) => Reply::unknown_route(route, start),
-    };
-    *reply = left;
-    left.status
+    on_numbered(route, start, Invert { start }, bytes, reply)
 }
