@@ -8,3 +8,4 @@ pub mod Histories
 pub mod Laws
 pub mod Places
 pub mod Reading
+pub mod Showing

@@ -1,6 +1,10 @@
 //! Calls of a session as values, and what they are answered.
+ghost use Rattle.std.specs.Prelude.{Some};
+ghost use Rattle.sessions.specs.Showing.{given_text};
+
 use crate::used::Used;
 use routes::Refusal;
+use std::fmt;
 
 /// A call that is to be carried out. A run is covered in place.
 #[derive(Clone, Drop)]
@@ -20,6 +24,18 @@ pub enum Given {
     Left(u64),
     /// The counter numbers used.
     Used(Used),
+}
+
+/// The number that remains, or the numbers used.
+impl fmt::Display for Given {
+    ghost output = { λ given. Some (given_text given) };
+
+    fn fmt<W: fmt::Write>(&self, f: &mut fmt::Formatter<W>) -> fmt::Result {
+        match *self {
+            Given::Left(n) => write!(f, "{n}"),
+            Given::Used(used) => write!(f, "{used}"),
+        }
+    }
 }
 
 /// What a call was answered: what it gave, or why it was refused.
