@@ -37,6 +37,7 @@ pub(crate) fn carry_out<R: Route>(
     requires room { vec_len calls ≤ vec_capacity answered.old }
     ensures { Carried (held_by R.Route.tally engine.old session.old) calls.items (answers_given answered.new.items) (calls_left answered.new.items) (held_by R.Route.tally engine.new session.new) }
 {
+    // The list is passed in, empty and with room, since memory is asked for before anything is done: here nothing can fail halfway.
     let mut pad = [0; 16];
     for mut call in calls {
         let answer = carry_out_one(session, engine, &mut call, &mut pad);

@@ -22,7 +22,7 @@ fn add(part: &mut [u8], pad: &[u8; 16])
     requires { length part.old ≤ 16 }
     ensures { part.new ≡ plus part.old pad.now }
 {
-    // A `zip` with the pad does not say what the part ends as.
+    // Tried as `part.iter_mut().zip(pad)`: the loop's invariant has no name for the part while it is lent to the chain, so the proof did not close.
     for (i, byte) in part.iter_mut().enumerate() {
         *byte ^= pad[i];
     }
@@ -60,7 +60,8 @@ pub(crate) fn cover_run<R: Route>(
     ensures spent { Spent R.Route.tally engine.old engine.new (blocks (length run.old)) }
     ensures added { Added (key_of engine.old) prefix.now first (blocks (length run.old)) run.old run.new }
 {
-    // `chunks_mut` and `as_chunks_mut` do not say what the run ends as, so each piece is cut out by its place.
+    // Tried over `run.chunks_mut(16)`: the loop's invariant has no name for the run while it is lent, so the proof did not close. Each piece is cut out
+    // by its place.
     for p in 0..run.len().div_ceil(16) {
         let at = 16 * p;
         let end = run.len().min(at + 16);
