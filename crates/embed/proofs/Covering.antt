@@ -8,10 +8,10 @@ use Rattle.sessions.specs.Calls.{cover, covers, taken, used, call_cost}
 use Rattle.sessions.specs.Exchanges.{set_up_verdict}
 use Rattle.sessions.specs.Histories.{Held, Promised, History, none, then, SetUp, opened}
 use Rattle.sessions.specs.Places.{Ran}
-use Rattle.sessions.specs.Reading.{key_or_none, held_by, numbers_given, covering}
+use Rattle.sessions.specs.Reading.{held_by, numbers_given, covering}
 use Rattle.sessions.specs.declared.session.Session.{Session}
 use Rattle.sessions.specs.declared.used.Used.{Used}
-use Rattle.sessions.proofs.SetUps.{allowed_by}
+use Rattle.sessions.proofs.SetUps.{allowed_by, held_at_start}
 use Rattle.sessions.proofs.Steps.{held_path, taken_is_ctr}
 use Rattle.embed.specs.Covers.{answer_by, count_by, ruled_cover, cover_answer, refused_tally, ruled_tally, one_cover, Covered}
 
@@ -51,7 +51,4 @@ module _ (u : SetUp) (run run' : List ℕ) (r : Result Used Refusal) (h' : Held)
 -- The same from what a session and an engine hold.
 pub covered_by : {R : Type 0} (tally : R → ℕ) (u : SetUp) (e e' : Engine R) (s s' : Session) (run run' : List ℕ) (r : Result Used Refusal) → set_up_verdict u ≡ None → engine_key e ≡ Some u.key → tally e.route ≡ u.starting + key_cost (length u.key) → s.prefix ≡ u.prefix → s.next ≡ u.opening → Promised (held_by tally e s) (covering run r run') (held_by tally e' s') → Covered u run (numbers_given r) (tally e'.route) run'
 covered_by tally u e e' s s' run run' r yes_taken key-is tally-is prefix-is next-is promise =
-    covered_once u run run' r (held_by tally e' s') yes_taken (subst (λ h. Promised h (covering run r run') (held_by tally e' s')) start promise)
-  where
-    start : held_by tally e s ≡ opened u
-    start = held_path (held_by tally e s) (opened u) (ap key_or_none key-is) prefix-is next-is tally-is
+    covered_once u run run' r (held_by tally e' s') yes_taken (subst (λ h. Promised h (covering run r run') (held_by tally e' s')) (held_at_start tally u e s key-is tally-is prefix-is next-is) promise)

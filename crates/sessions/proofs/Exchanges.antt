@@ -19,6 +19,10 @@ use Rattle.sessions.specs.declared.call.Given.{Given}
 
 -- ---- one call
 
+-- A run of a vector that keeps its length is what the vector holds afterwards.
+pub run_left : (v : Vec ℕ Global) (xs ys : List ℕ) → length xs ≡ vec_len v → length ys ≡ length xs → ys ≡ vec_items (with_items v ys)
+run_left v xs ys size same = sym (with_items_is v ys (same ∙ size))
+
 -- What a call gave, noted as an answer.
 pub answered : {X : Type 0} (note : X → Given) (r : Result X Refusal) (a : Result Given Refusal) → MatchResult r (λ x. IsOkAnd a (λ y. y ≡ note x)) (λ e. a ≡ Err e) → answer_in a ≡ answer_from (λ x. given_in (note x)) r
 answered note (Ok x) (Ok y) h = ap given_in h
@@ -30,13 +34,10 @@ module _ {h h' : Held} {c : SessionCall} (a : Result Given Refusal) {given : Ans
   pub carried_cover : (v : Vec ℕ Global) (xs ys : List ℕ) → c ≡ Cover v → xs ≡ vec_items v → length xs ≡ vec_len v → length ys ≡ length xs → Promised h record { call = cover xs; answer = given; left = ys } h' → CarriedOne h c a (Cover (with_items v ys)) h'
   carried_cover v xs ys is holds size same promised =
       record {
-        promised = subst (λ e. Promised h e h') (λ i. record { call = event_is i; answer = sym noted i; left = left_is i }) promised;
-        same_shape = ap (λ zs. covers (length zs)) (sym left_is) ∙ ap covers same ∙ ap (λ zs. covers (length zs)) holds ∙ ap shape_in (sym is);
+        promised = subst (λ e. Promised h e h') (λ i. record { call = event_is i; answer = sym noted i; left = run_left v xs ys size same i }) promised;
+        same_shape = ap (λ zs. covers (length zs)) (sym (run_left v xs ys size same)) ∙ ap covers same ∙ ap (λ zs. covers (length zs)) holds ∙ ap shape_in (sym is);
       }
     where
-      left_is : ys ≡ vec_items (with_items v ys)
-      left_is = sym (with_items_is v ys (same ∙ size))
-
       event_is : cover xs ≡ call_in c
       event_is = ap cover holds ∙ ap call_in (sym is)
 

@@ -67,16 +67,19 @@ module _ (u : SetUp) where
 
 -- ---- one end
 
--- What is held when the key is set and the session opened is what the set-up says, and so is what is held at the end but for the numbers.
+-- What is held when the key is set and the session opened is what the set-up says.
+pub held_at_start : {R : Type 0} (tally : R → ℕ) (u : SetUp) (e : Engine R) (s : Session) → engine_key e ≡ Some u.key → tally e.route ≡ u.starting + key_cost (length u.key) → s.prefix ≡ u.prefix → s.next ≡ u.opening → held_by tally e s ≡ opened u
+held_at_start tally u e s key-is tally-is prefix-is next-is =
+    held_path (held_by tally e s) (opened u) (ap key_or_none key-is) prefix-is next-is tally-is
+
+-- So is what is held at the end, but for the numbers.
 pub run_carried : {R : Type 0} (tally : R → ℕ) (u : SetUp) (e e' : Engine R) (s s' : Session) (closed : ℕ) {cs cs' : List SessionCall} {as' : List (Result Given Refusal)} → engine_key e ≡ Some u.key → tally e.route ≡ u.starting + key_cost (length u.key) → s.prefix ≡ u.prefix → s.next ≡ u.opening → closed ≡ s'.next → Carried (held_by tally e s) cs as' cs' (held_by tally e' s') → Carried (opened u) cs as' cs' (held_at_end u closed (tally e'.route))
 run_carried tally u e e' s s' closed {cs = cs} {cs' = cs'} {as' = as'} key-is tally-is prefix-is next-is closed_is carried =
     subst (λ h. Carried (opened u) cs as' cs' h) finish from_start
   where
-    start : held_by tally e s ≡ opened u
-    start = held_path (held_by tally e s) (opened u) (ap key_or_none key-is) prefix-is next-is tally-is
-
     from_start : Carried (opened u) cs as' cs' (held_by tally e' s')
-    from_start = subst (λ h. Carried h cs as' cs' (held_by tally e' s')) start carried
+    from_start =
+        subst (λ h. Carried h cs as' cs' (held_by tally e' s')) (held_at_start tally u e s key-is tally-is prefix-is next-is) carried
 
     finish : held_by tally e' s' ≡ held_at_end u closed (tally e'.route)
     finish =
