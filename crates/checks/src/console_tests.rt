@@ -1,6 +1,7 @@
 //! What lines are read as, and how answers and errors are written.
 use console::{Answer, Command, Failure, LoneVerb, Misread, RunVerb, Unfit, Verb, bytes, read};
 use routes::Refusal;
+use sessions::Used;
 use std::alloc::Global;
 use std::test::Fail;
 
@@ -42,7 +43,7 @@ fn blank_lines_and_remarks_are_passed_over(rt: HostRuntime) -> Result<(), Fail> 
 fn answers_are_written_as_lines(rt: HostRuntime) -> Result<(), Fail> {
     let heap = rt.alloc();
     let run = Vec::from_slice(heap, &[0x0a, 0xff])?;
-    let covered = Answer::Covered(7, 1, run).to_string(heap)?;
+    let covered = Answer::Covered(Used { first: 7, count: 1 }, run).to_string(heap)?;
     assert_eq!(rt; covered.as_str(), "taken 7 1 0aff");
     let empty = Answer::Block(Vec::new(heap)).to_string(heap)?;
     assert_eq!(rt; empty.as_str(), "taken -");

@@ -41,7 +41,7 @@ block_told (Ok x) block = Ok (Block block)
 block_told (Err e) block = Err (Refused e)
 
 abbrev pub cover_told : Result Used Refusal → Vec ℕ Global → Result Answer Failure
-cover_told (Ok u) run = Ok (Covered u.first u.count run)
+cover_told (Ok u) run = Ok (Covered u run)
 cover_told (Err e) run = Err (Refused e)
 
 -- ---- with an engine, which is there or not

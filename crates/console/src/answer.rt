@@ -4,6 +4,7 @@ ghost use Rattle.console.specs.declared.answer.Failure.TheVariants.{Refused, Out
 
 use crate::hex::Hex;
 use routes::Refusal;
+use sessions::Used;
 use std::error::Error;
 use std::fmt;
 
@@ -14,8 +15,8 @@ pub enum Answer {
     Taken,
     /// It gave a number: what remains, the next number, or a tally.
     Number(u64),
-    /// A run was covered: the first number used, how many, and the run as it is now.
-    Covered(u64, u64, Vec<u8>),
+    /// A run was covered: the numbers used, and the run as it is now.
+    Covered(Used, Vec<u8>),
     /// A block was encrypted or decrypted: the block as it is now.
     Block(Vec<u8>),
 }
@@ -25,7 +26,7 @@ impl fmt::Display for Answer {
         match self {
             Answer::Taken => write!(f, "taken"),
             Answer::Number(n) => write!(f, "taken {n}"),
-            Answer::Covered(first, count, run) => {
+            Answer::Covered(Used { first, count }, run) => {
                 write!(f, "taken {first} {count} {}", Hex(run.as_slice()))
             }
             Answer::Block(block) => write!(f, "taken {}", Hex(block.as_slice())),

@@ -40,31 +40,43 @@ impl Desk {
     {
         // A match and no table of functions: the commands carry values of different types.
         match command {
-            Command::MakeRoute(name, start) => self.make(name, start),
-            Command::OpenSession(prefix, at) => self.open(prefix.as_slice(), at),
-            Command::SkipNumbers(n) => self.skip(n),
-            Command::WithRun(RunVerb::Key, key) => self.set_key(key.as_slice()),
+            Command::MakeRoute(name, start) => engine::make(&mut self.engine, name, start),
+            Command::OpenSession(prefix, at) => session::open(
+                &mut self.session,
+                prefix.as_slice(),
+                at,
+            ),
+            Command::SkipNumbers(n) => session::skip(&mut self.session, n),
+            Command::WithRun(RunVerb::Key, key) => engine::set_key(
+                &mut self.engine,
+                key.as_slice(),
+            ),
             Command::WithRun(RunVerb::Cover, run) => self.cover(run),
-            Command::WithRun(RunVerb::Encrypt, block) => self.turn(Direction::Encrypt, block),
-            Command::WithRun(RunVerb::Decrypt, block) => self.turn(Direction::Decrypt, block),
-            Command::Plainly(LoneVerb::Remaining) => self.remaining(),
-            Command::Plainly(LoneVerb::Close) => self.close(),
-            Command::Plainly(LoneVerb::Retire) => self.retire(),
+            Command::WithRun(RunVerb::Encrypt, block) => engine::turn(
+                &mut self.engine,
+                Direction::Encrypt,
+                block,
+            ),
+            Command::WithRun(RunVerb::Decrypt, block) => engine::turn(
+                &mut self.engine,
+                Direction::Decrypt,
+                block,
+            ),
+            Command::Plainly(LoneVerb::Remaining) => session::remaining(&self.session),
+            Command::Plainly(LoneVerb::Close) => session::close(&mut self.session),
+            Command::Plainly(LoneVerb::Retire) => engine::retire(&mut self.engine),
         }
     }
 
     /// Covers a run.
+    #[tactic(auto, using(crate::proofs::Desks::run_covered))]
     fn cover(&mut self, mut run: Vec<u8>) -> Result<Answer, Failure>
         ensures { RunCovered self.old.engine self.old.session run.items self.new.engine self.new.session result }
     {
-        let Some(session) = &mut self.session else {
-            return Err(Unfit::SessionMissing.into());
-        };
-        let Some(engine) = self.engine.as_mut() else {
-            return Err(Unfit::EngineMissing.into());
-        };
+        let session = self.session.as_mut().ok_or(Unfit::SessionMissing)?;
+        let engine = self.engine.as_mut().ok_or(Unfit::EngineMissing)?;
         let used = session.cover(engine, run.as_mut_slice(), &mut [0; 16])?;
-        Ok(Answer::Covered(used.first, used.count, run))
+        Ok(Answer::Covered(used, run))
     }
 
     /// Closes the session and retires the engine, where they are there, and tells the next number and the tally.

@@ -1,54 +1,49 @@
-//! The commands that need a session and no engine.
+//! The commands that need a session and no engine. They are given the session's place alone, so an engine stays as it is.
 ghost use Rattle.std.specs.Prelude.{◌≡◌, None};
 ghost use Rattle.console.specs.Desks.{SessionOpened, NumbersSkipped, RemainingAsked, SessionClosed};
 
 use crate::answer::{Answer, Failure, Unfit};
-use crate::desk::Desk;
 use sessions::Session;
 
-impl Desk {
-    /// Opens a session, where there is none.
-    pub(super) fn open(&mut self, prefix: &[u8], at: Option<u64>) -> Result<Answer, Failure>
-        ensures session { SessionOpened self.old.session prefix.now at self.new.session result }
-        ensures engine { self.new.engine ≡ self.old.engine }
-    {
-        if self.session.is_some() {
-            return Err(Unfit::SessionThere.into());
-        }
-        match self.session.replace(Session::open(prefix, at)?) {
-            None => Ok(Answer::Taken),
-            Some(_before) => unreachable!(),
-        }
+/// Opens a session, where there is none.
+pub(super) fn open(
+    session: &mut Option<Session>,
+    prefix: &[u8],
+    at: Option<u64>,
+) -> Result<Answer, Failure>
+    ensures { SessionOpened session.old prefix.now at session.new result }
+{
+    if session.is_some() {
+        return Err(Unfit::SessionThere.into());
     }
+    // No assignment: that would let go of what stood there, and a session is never let go.
+    match session.replace(Session::open(prefix, at)?) {
+        None => Ok(Answer::Taken),
+        Some(_before) => unreachable!(),
+    }
+}
 
-    /// Leaves out counter numbers, and tells what remains.
-    pub(super) fn skip(&mut self, n: u64) -> Result<Answer, Failure>
-        ensures session { NumbersSkipped self.old.session n self.new.session result }
-        ensures engine { self.new.engine ≡ self.old.engine }
-    {
-        let Some(session) = &mut self.session else {
-            return Err(Unfit::SessionMissing.into());
-        };
-        Ok(Answer::Number(session.skip(n)?))
-    }
+/// Leaves out counter numbers, and tells what remains.
+pub(super) fn skip(session: &mut Option<Session>, n: u64) -> Result<Answer, Failure>
+    ensures { NumbersSkipped session.old n session.new result }
+{
+    let session = session.as_mut().ok_or(Unfit::SessionMissing)?;
+    Ok(Answer::Number(session.skip(n)?))
+}
 
-    /// Tells what remains.
-    pub(super) fn remaining(&self) -> Result<Answer, Failure>
-        ensures { RemainingAsked self.now.session self.now.session result }
-    {
-        let Some(session) = &self.session else {
-            return Err(Unfit::SessionMissing.into());
-        };
-        Ok(Answer::Number(session.remaining()))
-    }
+/// Tells what remains.
+pub(super) fn remaining(session: &Option<Session>) -> Result<Answer, Failure>
+    ensures { RemainingAsked session.now session.now result }
+{
+    let session = session.as_ref().ok_or(Unfit::SessionMissing)?;
+    Ok(Answer::Number(session.remaining()))
+}
 
-    /// Closes the session, and tells its next number.
-    pub(super) fn close(&mut self) -> Result<Answer, Failure>
-        ensures session { SessionClosed self.old.session result }
-        ensures gone { self.new.session ≡ None }
-        ensures engine { self.new.engine ≡ self.old.engine }
-    {
-        let session = self.session.take().ok_or(Unfit::SessionMissing)?;
-        Ok(Answer::Number(session.close()))
-    }
+/// Closes the session, and tells its next number.
+pub(super) fn close(session: &mut Option<Session>) -> Result<Answer, Failure>
+    ensures told { SessionClosed session.old result }
+    ensures gone { session.new ≡ None }
+{
+    let session = session.take().ok_or(Unfit::SessionMissing)?;
+    Ok(Answer::Number(session.close()))
 }
