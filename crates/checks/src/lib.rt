@@ -1,4 +1,5 @@
-//! Examples of what the crates do, each proved as any function is and then run. They stand here so that a crate is not proved twice.
+//! Examples of what `console` reads and writes, and of how a refusal of `routes` is shown, each proved as any function is and then run. The crates below
+//! have their own. These stand here so that `console` is not proved twice.
 
 #![tactic(auto)]
 

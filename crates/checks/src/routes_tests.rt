@@ -1,4 +1,4 @@
-//! What a reader would want to see of the routes.
+//! How a refusal is shown.
 use routes::Refusal;
 use std::test::Fail;
 

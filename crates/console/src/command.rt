@@ -38,6 +38,7 @@ fn route(rest: &str) -> Option<Command>
     ensures { RouteRead rest.now result }
 {
     let (name, start) = first_word(rest);
+    // Both are read before either `?`: the promise tells what each of them is.
     let (name, start) = (name.parse::<RouteName>().ok(), number(start));
     Some(Command::MakeRoute(name?, start?))
 }
@@ -85,6 +86,7 @@ fn on_run(heap: Global, verb: RunVerb, rest: &str) -> Result<Option<Command>, Al
 fn arguments(heap: Global, verb: Verb, rest: &str) -> Result<Option<Command>, AllocError>
     ensures { IfOk result (λ o. ArgumentsRead verb rest.now o) }
 {
+    // A match and no trait of verbs: no verb is added from outside, and what follows one differs from kind to kind.
     match verb {
         Verb::Route => Ok(route(rest)),
         Verb::Open => open(heap, rest),

@@ -25,8 +25,11 @@ pub const READING: &[u8] = b"tank=fermenter 7; volume=212 hl";
 /// An exchange of the reading between two routes.
 #[derive(Drop)]
 pub struct Delivery {
+    /// The route of the transmitter.
     pub from: RouteName,
+    /// The route of the gateway.
     pub to: RouteName,
+    /// What both ends have to show after it.
     pub ends: BothEnds,
 }
 

@@ -38,45 +38,28 @@ impl Desk {
         ensures done { CarriedOut self.old command self.new result }
         ensures laws { SessionLaws }
     {
+        let Desk { engine, session } = self;
         // A match and no table of functions: the commands carry values of different types.
         match command {
-            Command::MakeRoute(name, start) => engine::make(&mut self.engine, name, start),
-            Command::OpenSession(prefix, at) => session::open(
-                &mut self.session,
-                prefix.as_slice(),
-                at,
-            ),
-            Command::SkipNumbers(n) => session::skip(&mut self.session, n),
-            Command::WithRun(RunVerb::Key, key) => engine::set_key(
-                &mut self.engine,
-                key.as_slice(),
-            ),
-            Command::WithRun(RunVerb::Cover, run) => self.cover(run),
-            Command::WithRun(RunVerb::Encrypt, block) => engine::turn(
-                &mut self.engine,
+            Command::MakeRoute(name, start) => engine::make(engine, name, start),
+            Command::OpenSession(prefix, at) => session::open(session, prefix.as_slice(), at),
+            Command::SkipNumbers(n) => session::skip(session, n),
+            Command::WithRun(RunVerb::Key, key) => engine::set_key(engine, key.as_slice()),
+            Command::WithRun(RunVerb::Cover, run) => cover(engine, session, run),
+            Command::WithRun(RunVerb::Encrypt, run) => engine::turn(
+                engine,
                 Direction::Encrypt,
-                block,
+                run,
             ),
-            Command::WithRun(RunVerb::Decrypt, block) => engine::turn(
-                &mut self.engine,
+            Command::WithRun(RunVerb::Decrypt, run) => engine::turn(
+                engine,
                 Direction::Decrypt,
-                block,
+                run,
             ),
-            Command::Plainly(LoneVerb::Remaining) => session::remaining(&self.session),
-            Command::Plainly(LoneVerb::Close) => session::close(&mut self.session),
-            Command::Plainly(LoneVerb::Retire) => engine::retire(&mut self.engine),
+            Command::Plainly(LoneVerb::Remaining) => session::remaining(session),
+            Command::Plainly(LoneVerb::Close) => session::close(session),
+            Command::Plainly(LoneVerb::Retire) => engine::retire(engine),
         }
-    }
-
-    /// Covers a run.
-    #[tactic(auto, using(crate::proofs::Desks::run_covered))]
-    fn cover(&mut self, mut run: Vec<u8>) -> Result<Answer, Failure>
-        ensures { RunCovered self.old.engine self.old.session run.items self.new.engine self.new.session result }
-    {
-        let session = self.session.as_mut().ok_or(Unfit::SessionMissing)?;
-        let engine = self.engine.as_mut().ok_or(Unfit::EngineMissing)?;
-        let used = session.cover(engine, run.as_mut_slice(), &mut [0; 16])?;
-        Ok(Answer::Covered(used, run))
     }
 
     /// Closes the session and retires the engine, where they are there, and tells the next number and the tally.
@@ -90,4 +73,19 @@ impl Desk {
             engine.map(|engine| engine.retire().tally()),
         )
     }
+}
+
+/// Covers a run.
+#[tactic(auto, using(crate::proofs::Desks::run_covered))]
+fn cover(
+    engine: &mut Option<Engine<AnyRoute>>,
+    session: &mut Option<Session>,
+    mut run: Vec<u8>,
+) -> Result<Answer, Failure>
+    ensures { RunCovered engine.old session.old run.items engine.new session.new result }
+{
+    let session = session.as_mut().ok_or(Unfit::SessionMissing)?;
+    let engine = engine.as_mut().ok_or(Unfit::EngineMissing)?;
+    let used = session.cover(engine, run.as_mut_slice(), &mut [0; 16])?;
+    Ok(Answer::Covered(used, run))
 }

@@ -3,12 +3,17 @@ use crate::misread::Misread;
 use std::fmt;
 use std::str::FromStr;
 
-/// A verb that works on a run of bytes, which follows it.
+/// A verb that works on a run of bytes, which follows it. These are the verbs as a line has them. [`Direction`](crate::direction::Direction) is what
+/// two of them ask an engine for, and is asked where no line is read too.
 #[derive(Clone, Copy, PartialEq, Eq, Debug)]
 pub enum RunVerb {
+    /// Set the run as key.
     Key,
+    /// Cover the run.
     Cover,
+    /// Encrypt the run, which is a block.
     Encrypt,
+    /// Decrypt the run, which is a block.
     Decrypt,
 }
 
@@ -26,8 +31,11 @@ impl fmt::Display for RunVerb {
 /// A verb that stands alone.
 #[derive(Clone, Copy, PartialEq, Eq, Debug)]
 pub enum LoneVerb {
+    /// Tell how many counter numbers remain.
     Remaining,
+    /// Close the session.
     Close,
+    /// Retire the engine.
     Retire,
 }
 
@@ -44,10 +52,15 @@ impl fmt::Display for LoneVerb {
 /// The first word of a command.
 #[derive(Clone, Copy, PartialEq, Eq, Debug)]
 pub enum Verb {
+    /// Make a route, and an engine from it.
     Route,
+    /// Open a session.
     Open,
+    /// Leave out counter numbers.
     Skip,
+    /// Work on a run of bytes.
     OnRun(RunVerb),
+    /// A verb that nothing follows.
     Alone(LoneVerb),
 }
 

@@ -19,7 +19,9 @@ pub enum Command {
     Routes,
     /// Encrypt or decrypt a block on the named route. Key and block are the second and third word.
     Turn {
+        /// Whether the block is encrypted or decrypted.
         direction: Direction,
+        /// The route that runs.
         route: RouteName,
     },
     /// Say what the program can be asked.
@@ -30,7 +32,7 @@ pub enum Command {
 pub const USUAL_ROUTE: RouteName = RouteName::Table;
 
 /// Words that ask for nothing that the program does.
-#[derive(Debug, Drop)]
+#[derive(Clone, Copy, PartialEq, Eq, Debug)]
 pub enum Misuse {
     /// The first word is no command, or words are missing or left over.
     Words,

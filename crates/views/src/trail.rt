@@ -13,10 +13,15 @@ use std::fmt;
 /// The steps of one of the five routes.
 #[derive(Clone, Copy)]
 pub enum Trail {
+    /// Those of the power route.
     ByPower(PowerSteps),
+    /// Those of the split route.
     BySplit(SplitSteps),
+    /// Those of the table route.
     ByTable(TableSteps),
+    /// Those through the pairs over nibbles.
     ByPair(FieldSteps),
+    /// Those through the three pairs over bits.
     ByTower(FieldSteps),
 }
 

@@ -16,7 +16,7 @@ pub(super) fn open(
     if session.is_some() {
         return Err(Unfit::SessionThere.into());
     }
-    // No assignment: that would let go of what stood there, and a session is never let go.
+    // `replace` and no assignment: an assignment drops what stood there, and a session can't be dropped. Nothing stands there, so the other arm is never run.
     match session.replace(Session::open(prefix, at)?) {
         None => Ok(Answer::Taken),
         Some(_before) => unreachable!(),
