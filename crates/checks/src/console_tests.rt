@@ -9,6 +9,7 @@ use std::test::Fail;
 fn skips(heap: Global, line: &str, n: u64) -> Result<bool, Fail> {
     match read(heap, line) {
         Ok(Some(Command::SkipNumbers(m))) => Ok(m == n),
+        Err(Misread::Memory(error)) => Err(error.into()),
         _ => Ok(false),
     }
 }

@@ -7,6 +7,7 @@ use Rattle.cipher.specs.Engines.{Turned}
 use Rattle.cipher.specs.declared.engine.Engine.{Engine}
 use Rattle.routes.specs.AnyRoutes.{AnyRoute, any_tally}
 use Rattle.routes.specs.declared.refusal.Refusal.{Refusal}
+use Rattle.sessions.proofs.Exchanges.{run_left}
 use Rattle.sessions.specs.Histories.{Promised}
 use Rattle.sessions.specs.Reading.{held_by, covering}
 use Rattle.sessions.specs.declared.session.Session.{Session}
@@ -17,7 +18,7 @@ use Rattle.console.specs.declared.answer.Failure.{Failure}
 
 module _ (e e' : Engine AnyRoute) (v : Vec ℕ Global) (xs ys : List ℕ) (holds : xs ≡ vec_items v) (size : length xs ≡ vec_len v) (same : length ys ≡ length xs) (r : Result Answer Failure) where
   left_is : ys ≡ vec_items (with_items v ys)
-  left_is = sym (with_items_is v ys (same ∙ size))
+  left_is = run_left v xs ys size same
 
   pub block_turned : (turn : ℕ → List ℕ → List ℕ → List ℕ) (engine : Option (Engine AnyRoute)) (x : Result (Unit {0}) Refusal) → engine ≡ Some e → Turned any_tally e e' turn xs ys x → r ≡ block_told x (with_items v ys) → BlockTurned turn engine (vec_items v) (Some e') r
   block_turned turn engine x is turned told =

@@ -26,9 +26,7 @@ impl fmt::Display for Answer {
         match self {
             Answer::Taken => write!(f, "taken"),
             Answer::Number(n) => write!(f, "taken {n}"),
-            Answer::Covered(Used { first, count }, run) => {
-                write!(f, "taken {first} {count} {}", Hex(run.as_slice()))
-            }
+            Answer::Covered(used, run) => write!(f, "taken {used} {}", Hex(run.as_slice())),
             Answer::Block(block) => write!(f, "taken {}", Hex(block.as_slice())),
         }
     }

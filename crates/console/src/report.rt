@@ -3,7 +3,7 @@ use crate::answer::Failure;
 use crate::delivery::{Delivery, KEY, OPENING, PREFIX, READING, START};
 use crate::hex::Hex;
 use routes::RouteName;
-use sessions::{End, Given, SessionAnswer, SessionCall, Used};
+use sessions::{End, SessionAnswer, SessionCall};
 use std::{fmt, io};
 
 /// Bytes as characters, with a dot for those that can't be shown.
@@ -44,8 +44,7 @@ struct Told(SessionAnswer);
 impl fmt::Display for Told {
     fn fmt<W: fmt::Write>(&self, f: &mut fmt::Formatter<W>) -> fmt::Result {
         match self.0 {
-            Ok(Given::Left(n)) => write!(f, "taken {n}"),
-            Ok(Given::Used(Used { first, count })) => write!(f, "taken {first} {count}"),
+            Ok(given) => write!(f, "taken {given}"),
             Err(refusal) => write!(f, "{}", Failure::Refused(refusal)),
         }
     }
