@@ -1,6 +1,5 @@
 -- Runs that were worked on in place, as the answers tell them.
-use Rattle.std.proofs.Common.{◌≡◌, ℕ, List, length, Some, vec_items, vec_len, Option, Result, Vec, sym, ◌∙◌, subst}
-use Rattle.std.proofs.lemmas.List.{with_items_is}
+use Rattle.std.proofs.Common.{◌≡◌, ℕ, List, length, Some, vec_items, vec_len, Option, Result, Vec, sym, subst}
 use Rattle.std.specs.Vec.{with_items}
 use Rattle.std.specs.declared.alloc.Global.{Global}
 use Rattle.cipher.specs.Engines.{Turned}
