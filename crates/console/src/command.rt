@@ -101,7 +101,7 @@ pub fn read(heap: Global, line: &str) -> Result<Option<Command>, Misread>
     ensures { LineRead line.now result }
 {
     let (word, rest) = first_word(line);
-    if word.is_empty() || word.as_bytes()[0] == b'#' {
+    if word.is_empty() || word.starts_with('#') {
         return Ok(None);
     }
     let verb: Verb = word.parse()?;
