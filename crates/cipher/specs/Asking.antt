@@ -1,4 +1,4 @@
--- How often a function asks a route. Assumes nothing.
+-- How often a function asks a route: facts about a call and not about a value, so no type carries them. Assumes nothing.
 use Rattle.std.specs.Prelude.{◌≡◌, ℕ, ◌+◌, ◌≤◌, List}
 use Rattle.routes.specs.Routes.{cap}
 

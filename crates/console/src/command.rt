@@ -43,7 +43,7 @@ fn route(rest: &str) -> Option<Command>
     Some(Command::MakeRoute(name?, start?))
 }
 
-/// An opening number, where there is one; or none where it is not written as a number.
+/// An opening number, where there is one; or none where it is not written as a number: two things that may be wanting, so two Options.
 fn opening(text: &str) -> Option<Option<u64>>
     ensures { AtRead text.now result }
 {

@@ -10,6 +10,7 @@ pub(crate) fn copies_of(heap: Global, answered: &[Answered]) -> Result<Vec<Sessi
     ensures { IfOk result (λ v. map call_in v.items ≡ map call_in (calls_left answered.now)) }
 {
     let mut copies = Vec::new(heap);
+    // Tried as `.map(..).try_collect(heap)`: what it collects stayed open, so the proof did not close.
     for one in answered {
         let copy = one.call.clone()?;
         copies.push(copy)?;
