@@ -10,13 +10,7 @@ use std::fmt;
 fn digit(character: u8) -> Option<u8>
     ensures { result ≡ digit_of character }
 {
-    // Not `char::to_digit`, which gives a `u32` that would have to be narrowed: no plainer.
-    match character {
-        b'0'..=b'9' => Some(character - b'0'),
-        b'A'..=b'F' => Some(character - b'A' + 10),
-        b'a'..=b'f' => Some(character - b'a' + 10),
-        _ => None,
-    }
+    char::from(character).to_digit(16).map(|value| value as u8)
 }
 
 /// The byte of two digits, the higher first, or none where one of them is no digit.

@@ -1,13 +1,13 @@
 //! Powers of a byte whose exponent is a power of two. They carry sums to sums, so each is a sum over the bits of the byte.
 ghost use Rattle.std.specs.Prelude.{◌≡◌};
-ghost use Rattle.fields.specs.Bytes.{byte};
+ghost use Rattle.fields.specs.Bytes.{byte, byte_product};
 ghost use Rattle.fields.specs.Matrices.{by_columns};
 ghost use Rattle.fields.specs.declared.byte.Byte.{Byte};
 ghost use Rattle.routes.specs.AdditivePowers.{exponent};
 ghost use Rattle.routes.specs.Formulas.{byte_power};
 
 use crate::select::{bit, keep};
-use fields::Byte;
+use fields::{Byte, Field};
 
 mod which;
 
@@ -31,6 +31,16 @@ impl AdditivePower {
     {
         Byte::from(sum_of_columns(&self.columns(), u8::from(a)))
     }
+}
+
+/// The 16th and the 17th power of a byte. The latter lies in the subfield of sixteen elements.
+pub(crate) fn sixteenth_and_next(a: u8) -> (Byte, Byte)
+    ensures sixteenth { result.0 ≡ byte_power 16 (byte a) }
+    ensures next { result.1 ≡ byte_product result.0 (byte a) }
+{
+    let element = Byte::from(a);
+    let a16 = AdditivePower::Sixteenth.of(element);
+    (a16, a16.product(element))
 }
 
 /// The sum of the columns at which the byte has a bit.

@@ -6,7 +6,7 @@ ghost use Rattle.routes.specs.Inverting.{Inverts};
 ghost use Rattle.routes.specs.Names.{name_text};
 ghost use Rattle.routes.specs.declared.name.RouteName.TheVariants.{Split};
 
-use crate::additive_power::AdditivePower;
+use crate::additive_power::sixteenth_and_next;
 use crate::formula::Formula;
 use crate::metered::Metered;
 use crate::name::RouteName;
@@ -51,9 +51,7 @@ impl SplitFormula {
         ensures t { result.t ≡ byte_sum (byte_product result.b result.b8) result.b4 }
         ensures inverse { Inverts a result.inverse }
     {
-        let element = Byte::from(a);
-        let a16 = AdditivePower::Sixteenth.of(element);
-        let b = a16.product(element);
+        let (a16, b) = sixteenth_and_next(a);
         let b4 = Byte::from(sum_by_bits(0xB0, 0xE1, 0x0C, u8::from(b)));
         let b8 = Byte::from(sum_by_bits(0xED, 0x5C, 0x50, u8::from(b)));
         let t = b.product(b8).sum(b4);

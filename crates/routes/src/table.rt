@@ -6,7 +6,7 @@ ghost use Rattle.routes.specs.Inverting.{Inverts};
 ghost use Rattle.routes.specs.Names.{name_text};
 ghost use Rattle.routes.specs.declared.name.RouteName.TheVariants.{Table};
 
-use crate::additive_power::AdditivePower;
+use crate::additive_power::sixteenth_and_next;
 use crate::formula::Formula;
 use crate::metered::Metered;
 use crate::name::RouteName;
@@ -66,9 +66,7 @@ impl TableFormula {
         ensures entry { result.entry ≡ slice_index inverse_table result.index }
         ensures inverse { Inverts a result.inverse }
     {
-        let element = Byte::from(a);
-        let a16 = AdditivePower::Sixteenth.of(element);
-        let b = a16.product(element);
+        let (a16, b) = sixteenth_and_next(a);
         let index = index_of(u8::from(b));
         let entry = entry_at(index);
         TableSteps {
