@@ -7,21 +7,6 @@ use crate::metered::Metered;
 use crate::refusal::Refusal;
 use crate::route::{CAP, Route};
 
-impl<F> Metered<F> {
-    /// The route of the formula that `wrap` makes of this route's, with the same tally.
-    pub fn map<G, W: FnOnce(F) -> G>(self, wrap: W) -> Metered<G>
-        requires { W.pre wrap self.formula }
-        ensures formula { W.post wrap self.formula result.formula }
-        ensures tally { result.tally ≡ self.tally }
-    {
-        let Metered { formula, tally } = self;
-        Metered {
-            formula: wrap(formula),
-            tally,
-        }
-    }
-}
-
 impl<F: Formula> Route for Metered<F> {
     type Choice = F::Choice;
 
