@@ -105,8 +105,8 @@ pub fn read(heap: Global, line: &str) -> Result<Option<Command>, Misread>
         return Ok(None);
     }
     let verb: Verb = word.parse()?;
-    match arguments(heap, verb, rest)? {
-        Some(command) => Ok(Some(command)),
-        None => Err(Misread::Misfit(verb)),
-    }
+    let Some(command) = arguments(heap, verb, rest)? else {
+        return Err(Misread::Misfit(verb));
+    };
+    Ok(Some(command))
 }

@@ -23,7 +23,7 @@ pub struct Reply {
     pub tally: u64,
 }
 
-/// The status of a call that names a route by a number that is none.
+/// The status of a call that names a route by a number that is none: a number, as C reads it, and no refusal's.
 const UNKNOWN_ROUTE: u64 = 255;
 
 impl Reply {

@@ -18,10 +18,10 @@ pub returns-in_err-command : goal.returns-in_err-command
 returns-in_err-command c =
     (_, _, c.first_word.ensures, verb_read c.first_word.result.0.now c.first_word.result.1.now c.in_ok-verb.verb c.from_residual-in_err-command.result _ (sym c.is_empty.ensures ∙ c.if-is_empty.false) (starts_char 35 c.first_word.result.0.now _ c.starts_with.ensures.cases (omega arith) (omega arith)) c.if-starts_with.false c.in_ok-verb.ensures.value (search rules))
 
-pub returns-in-Some : goal.returns-in-Some
-returns-in-Some c =
+pub returns : goal.returns
+returns c =
     (_, _, c.first_word.ensures, verb_read c.first_word.result.0.now c.first_word.result.1.now c.in_ok-verb.verb _ _ (sym c.is_empty.ensures ∙ c.if-is_empty.false) (starts_char 35 c.first_word.result.0.now _ c.starts_with.ensures.cases (omega arith) (omega arith)) c.if-starts_with.false c.in_ok-verb.ensures.value (search rules))
 
-pub returns-in-None : goal.returns-in-None
-returns-in-None c =
+pub returns-in_default : goal.returns-in_default
+returns-in_default c =
     (_, _, c.first_word.ensures, verb_read c.first_word.result.0.now c.first_word.result.1.now c.in_ok-verb.verb _ _ (sym c.is_empty.ensures ∙ c.if-is_empty.false) (starts_char 35 c.first_word.result.0.now _ c.starts_with.ensures.cases (omega arith) (omega arith)) c.if-starts_with.false c.in_ok-verb.ensures.value (search rules))
