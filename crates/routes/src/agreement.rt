@@ -7,17 +7,17 @@ ghost use Rattle.routes.specs.Figures.{route_figures};
 use crate::any_formula::AnyFormula;
 use crate::formula::Formula;
 use crate::name::RouteName;
-use crate::power::PowerFormula;
 
 /// Whether the five formulas give the same inverse of a byte. They always do, since what it is to invert a byte determines the answer.
 pub fn formulas_agree(byte: u8) -> bool
     ensures agree { result ≡ true }
     ensures determined { Determined }
 {
-    let power = PowerFormula.inverse(byte);
-    RouteName::ALL
+    // Each formula is asked once: the other four are compared with the first.
+    let inverse = AnyFormula::new(RouteName::ALL[0]).inverse(byte);
+    RouteName::ALL[1..]
         .iter()
-        .all(|name| AnyFormula::new(*name).inverse(byte) == power)
+        .all(|name| AnyFormula::new(*name).inverse(byte) == inverse)
 }
 
 /// How many worked figures there are of fields and routes. Its contract says that each of them comes out as published.

@@ -52,4 +52,14 @@ impl Formula for AnyFormula {
             AnyFormula::ByTower(formula) => formula.inverse(byte),
         }
     }
+
+    fn invert_all(&self, bytes: &mut [u8; 16]) {
+        match self {
+            AnyFormula::ByPower(formula) => formula.invert_all(bytes),
+            AnyFormula::BySplit(formula) => formula.invert_all(bytes),
+            AnyFormula::ByTable(formula) => formula.invert_all(bytes),
+            AnyFormula::ByPair(formula) => formula.invert_all(bytes),
+            AnyFormula::ByTower(formula) => formula.invert_all(bytes),
+        }
+    }
 }

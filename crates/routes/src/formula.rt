@@ -22,13 +22,14 @@ pub trait Formula: Drop {
     /// The inverse of a byte, 00 for 00.
     fn inverse(&self, byte: u8) -> u8
         ensures { Inverts byte result };
-}
 
-/// Replaces each of the sixteen bytes by its inverse.
-pub(crate) fn invert_all<F: Formula>(formula: &F, bytes: &mut [u8; 16])
-    ensures { AllInvert bytes.old bytes.new }
-{
-    for byte in bytes.iter_mut() {
-        *byte = formula.inverse(*byte);
+    /// Replaces each of the sixteen bytes by its inverse. A formula that stands for several has a body of its own, which looks once at which of them it
+    /// is and not at every byte.
+    fn invert_all(&self, bytes: &mut [u8; 16])
+        ensures { AllInvert bytes.old bytes.new }
+    {
+        for byte in bytes.iter_mut() {
+            *byte = self.inverse(*byte);
+        }
     }
 }

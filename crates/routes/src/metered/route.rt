@@ -2,7 +2,7 @@
 ghost use Rattle.std.specs.Prelude.{◌≡◌, ℕ, ◌≤◌};
 ghost use Rattle.std.proofs.Common.{rules, arith};
 
-use crate::formula::{Formula, invert_all};
+use crate::formula::Formula;
 use crate::metered::Metered;
 use crate::refusal::Refusal;
 use crate::route::{CAP, Route};
@@ -30,7 +30,7 @@ impl<F: Formula> Route for Metered<F> {
 
     fn invert(&mut self, bytes: &mut [u8; 16]) {
         if self.tally < CAP {
-            invert_all(&self.formula, bytes);
+            self.formula.invert_all(bytes);
             self.tally += 1;
         } else {
             *bytes = [0; 16];

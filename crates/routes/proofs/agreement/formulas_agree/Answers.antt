@@ -12,6 +12,6 @@ equal a r r' b h h' i i' e = e ∙ eq-eqb r r' (determined a r r' h h' i i')
 
 pub returns : goal.returns
 returns c = record {
-  agree = all_from_yields_List (λ _. true) _ _ c.all.result c.all.ensures.ran (YieldsList-from_slice _ c.iter.ensures.rest) (λ x b q k. search (rules, equal, c.inverse-power.ensures, c.inverse-power.type_inv));
+  agree = all_from_yields_List (λ _. true) _ _ c.all.result c.all.ensures.ran (YieldsList-from_slice _ c.iter.ensures.rest) (λ x b q k. search (rules, equal, c.inverse-inverse.ensures, c.inverse-inverse.type_inv));
   determined = determined;
 }
