@@ -1,8 +1,8 @@
 -- Calls as values: what carrying out one and carrying out a list come to. Assumes nothing.
-use Rattle.std.proofs.Common.{◌≡◌, ℕ, ◌+◌, ◌<◌, List, [], ◌∷◌, ◌++◌, map, length, get_or, take, vec_items, vec_len, Ok, Err, IsOkAnd, MatchResult, Result, Vec, sym, refl, ap, ◌∙◌, subst, ap₂, arith, length-append}
+use Rattle.std.proofs.Common.{◌≡◌, ℕ, ◌+◌, ◌<◌, ◌≤◌, List, [], ◌∷◌, ◌++◌, map, length, get_or, take, drop, set, vec_items, vec_len, Ok, Err, IsOkAnd, MatchResult, Result, Vec, sym, refl, ap, ◌∙◌, subst, ap₂, add-zero, arith, length-append, get_or-drop, take_all, drop-drop, drop-set-lt}
 use mathlib.Core.List.{map-append}
 use lib.ListN.{length-map}
-use Rattle.std.proofs.lemmas.List.{with_items_is, take_more}
+use Rattle.std.proofs.lemmas.List.{with_items_is, take_more, take_more_set}
 use Rattle.std.proofs.lemmas.List.Elements.{same_from_all_zip}
 use Rattle.std.specs.Vec.{with_items}
 use Rattle.std.specs.declared.alloc.Global.{Global}
@@ -91,6 +91,30 @@ noted_more {h = h} {h'' = h''} {cs = cs} xs ys {c = c} x noted all one =
     calls_are : calls_left ys ≡ calls_left xs ++ x.call ∷ []
     calls_are = ap calls_left noted ∙ map-append (λ a. a.call) xs (x ∷ [])
 
+-- One more call of a list that is carried out in place: `before` is the list as it was passed, and `now'` as it is.
+module _ (before now' : List Answered) (i : ℕ) (below : i < length now') (sized : length now' ≡ length before) (rest : drop i now' ≡ drop i before) where
+  same_call : (d : Answered) → get_or now' i d ≡ get_or before i d
+  same_call d = at_start now' ∙ ap (λ xs. get_or xs 0 d) rest ∙ sym (at_start before)
+    where
+      at_start : (xs : List Answered) → get_or xs i d ≡ get_or (drop i xs) 0 d
+      at_start xs = sym (get_or-drop i xs 0 d ∙ ap (λ n. get_or xs n d) (add-zero i))
+
+  pub carried_next : {h h' h'' : Held} (d x : Answered) → Carried h (calls_left (take i before)) (answers_given (take i now')) (calls_left (take i now')) h' → CarriedOne h' (get_or now' i d).call x.answer x.call h'' → Carried h (calls_left (take (i + 1) before)) (answers_given (take (i + 1) (set now' i x))) (calls_left (take (i + 1) (set now' i x))) h''
+  carried_next {h = h} {h'' = h''} d x all one =
+      subst (λ cs. Carried h cs (answers_given (take (i + 1) (set now' i x))) (calls_left (take (i + 1) (set now' i x))) h'') (sym here) (noted_more (take i now') (take (i + 1) (set now' i x)) x (take_more_set now' i x below) all one)
+    where
+      here : calls_left (take (i + 1) before) ≡ calls_left (take i before) ++ (get_or now' i d).call ∷ []
+      here =
+          ap calls_left (take_more before i d (omega arith)) ∙ map-append (λ a. a.call) (take i before) (get_or before i d ∷ []) ∙ ap (λ y. calls_left (take i before) ++ y.call ∷ []) (sym (same_call d))
+
+  pub rest_next : (x : Answered) → drop (i + 1) (set now' i x) ≡ drop (i + 1) before
+  rest_next x = drop-set-lt (i + 1) now' i x (omega arith) ∙ sym (drop-drop 1 i now') ∙ ap (drop 1) rest ∙ drop-drop 1 i before
+
+-- The whole list has been carried out, in the place where it stands.
+pub carried_all : {h h' : Held} (before now' given left : List Answered) (i : ℕ) → length before ≤ i → length now' ≤ i → before ≡ given → left ≡ now' → Carried h (calls_left (take i before)) (answers_given (take i now')) (calls_left (take i now')) h' → Carried h (calls_left given) (answers_given left) (calls_left left) h'
+carried_all {h = h} {h' = h'} before now' given left i p q passed kept all =
+    subst (λ xs. Carried h (calls_left xs) (answers_given left) (calls_left left) h') (take_all i before p ∙ passed) (subst (λ xs. Carried h (calls_left (take i before)) (answers_given xs) (calls_left xs) h') (take_all i now' q ∙ sym kept) all)
+
 -- ---- copies
 
 -- A clone of a call is the same call.
@@ -106,9 +130,9 @@ cloned Remaining (Skip m) h = absurd h
 cloned Remaining Remaining h = refl
 
 -- One more call of a list has been copied.
-pub copied_more : (xs : List Answered) (copies copies' : List SessionCall) (copy : SessionCall) (d : Answered) (i : ℕ) → i < length xs → copies' ≡ copies ++ copy ∷ [] → map call_in copies ≡ map call_in (calls_left (take i xs)) → call_in copy ≡ call_in (get_or xs i d).call → map call_in copies' ≡ map call_in (calls_left (take (i + 1) xs))
+pub copied_more : (xs copies copies' : List Answered) (copy d : Answered) (i : ℕ) → i < length xs → copies' ≡ copies ++ copy ∷ [] → map call_in (calls_left copies) ≡ map call_in (calls_left (take i xs)) → call_in copy.call ≡ call_in (get_or xs i d).call → map call_in (calls_left copies') ≡ map call_in (calls_left (take (i + 1) xs))
 copied_more xs copies copies' copy d i below pushed all one =
-    ap (map call_in) pushed ∙ map-append call_in copies (copy ∷ []) ∙ ap₂ (λ cs c. cs ++ c ∷ []) all one ∙ sym (map-append call_in (calls_left (take i xs)) (x.call ∷ [])) ∙ ap (map call_in) (sym (map-append (λ a. a.call) (take i xs) (x ∷ []))) ∙ ap (λ ys. map call_in (calls_left ys)) (sym (take_more xs i d below))
+    ap (λ ys. map call_in (calls_left ys)) pushed ∙ ap (map call_in) (map-append (λ a. a.call) copies (copy ∷ [])) ∙ map-append call_in (calls_left copies) (copy.call ∷ []) ∙ ap₂ (λ cs c. cs ++ c ∷ []) all one ∙ sym (map-append call_in (calls_left (take i xs)) (x.call ∷ [])) ∙ ap (map call_in) (sym (map-append (λ a. a.call) (take i xs) (x ∷ []))) ∙ ap (λ ys. map call_in (calls_left ys)) (sym (take_more xs i d below))
   where
     x : Answered
     x = get_or xs i d

@@ -41,6 +41,9 @@ impl fmt::Display for Given {
 /// What a call was answered: what it gave, or why it was refused.
 pub type SessionAnswer = Result<Given, Refusal>;
 
+/// What stands in the place of an answer until the call is carried out.
+pub(crate) const UNANSWERED: SessionAnswer = Ok(Given::Left(0));
+
 /// A call that was carried out, with its run as it was left, and its answer.
 #[derive(Drop)]
 pub struct Answered {

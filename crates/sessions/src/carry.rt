@@ -1,5 +1,5 @@
 //! Carrying out calls of a session that are given as values.
-ghost use Rattle.std.specs.Prelude.{◌≡◌, ◌≤◌, [], replicate, vec_len, vec_capacity};
+ghost use Rattle.std.specs.Prelude.{◌≡◌, replicate};
 ghost use Rattle.sessions.specs.Exchanges.{answers_given, calls_left, CarriedOne, Carried};
 ghost use Rattle.sessions.specs.Reading.{held_by};
 
@@ -26,21 +26,17 @@ fn carry_out_one<R: Route>(
     }
 }
 
-/// Carries out a list of calls, one after the other, and notes each with its answer in a list that has room for them.
+/// Carries out a list of calls in place, one after the other, and notes each one's answer beside it.
 pub(crate) fn carry_out<R: Route>(
     session: &mut Session,
     engine: &mut Engine<R>,
-    calls: Vec<SessionCall>,
     answered: &mut Vec<Answered>,
 )
-    requires none { answered.old.items ≡ [] }
-    requires room { vec_len calls ≤ vec_capacity answered.old }
-    ensures { Carried (held_by R.Route.tally engine.old session.old) calls.items (answers_given answered.new.items) (calls_left answered.new.items) (held_by R.Route.tally engine.new session.new) }
+    ensures { Carried (held_by R.Route.tally engine.old session.old) (calls_left answered.old.items) (answers_given answered.new.items) (calls_left answered.new.items) (held_by R.Route.tally engine.new session.new) }
 {
-    // The list is passed in, empty and with room, since memory is asked for before anything is done: here nothing can fail halfway.
+    // In place: memory is asked for before anything is done, so here nothing can fail halfway.
     let mut pad = [0; 16];
-    for mut call in calls {
-        let answer = carry_out_one(session, engine, &mut call, &mut pad);
-        answered.push_reserved(Answered { call, answer });
+    for one in answered.iter_mut() {
+        one.answer = carry_out_one(session, engine, &mut one.call, &mut pad);
     }
 }

@@ -4,7 +4,7 @@ ghost use Rattle.sessions.specs.Laws.{SessionLaws};
 
 use crate::agreement::Agreement;
 use crate::call::SessionCall;
-use crate::ends::copies::copies_of;
+use crate::ends::copies::{copies_of, unanswered};
 use crate::ends::end::{End, run_end};
 use crate::ends::error::ExchangeError;
 use routes::Route;
@@ -42,9 +42,10 @@ pub fn exchange<A: Route, B: Route>(
     let far = B::new(gateway, agreement.start);
     let near = near?;
     let far = far?;
-    let transmitter = run_end(heap, near, agreement, calls)?;
+    let passed = unanswered(heap, calls)?;
+    let transmitter = run_end(near, agreement, passed)?;
     let sent = copies_of(heap, &transmitter.answered)?;
-    let gateway = run_end(heap, far, agreement, sent)?;
+    let gateway = run_end(far, agreement, sent)?;
     Ok(BothEnds {
         transmitter,
         gateway,

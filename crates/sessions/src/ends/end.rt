@@ -1,15 +1,13 @@
 //! One end of an exchange: an engine and a session from a set-up, a list of calls, and what is left at the end.
-ghost use Rattle.std.specs.Prelude.{◌≡◌, ◌≤◌, [], vec_len, vec_capacity};
 ghost use Rattle.sessions.specs.Exchanges.{answers_given, agreed, calls_left, RunThrough, Ended};
 
 use crate::agreement::Agreement;
-use crate::call::{Answered, SessionCall};
+use crate::call::Answered;
 use crate::carry::carry_out;
 use crate::ends::error::ExchangeError;
 use crate::session::Session;
 use cipher::Engine;
 use routes::{Refusal, Route};
-use std::alloc::Global;
 
 /// What an end has to show when it has closed its session and retired its engine.
 #[derive(Drop)]
@@ -26,32 +24,27 @@ pub struct End {
 fn run_through<R: Route>(
     engine: &mut Engine<R>,
     agreement: Agreement,
-    calls: Vec<SessionCall>,
     answered: &mut Vec<Answered>,
 ) -> Result<u64, Refusal>
-    requires none { answered.old.items ≡ [] }
-    requires room { vec_len calls ≤ vec_capacity answered.old }
-    ensures { RunThrough (agreed agreement.entry (R.Route.tally engine.old.route)) calls.items (answers_given answered.new.items) (calls_left answered.new.items) (R.Route.tally engine.new.route) result }
+    ensures { RunThrough (agreed agreement.entry (R.Route.tally engine.old.route)) (calls_left answered.old.items) (answers_given answered.new.items) (calls_left answered.new.items) (R.Route.tally engine.new.route) result }
 {
     engine.set_key(agreement.key)?;
     let mut session = Session::open(agreement.prefix, agreement.at)?;
-    carry_out(&mut session, engine, calls, answered);
+    carry_out(&mut session, engine, answered);
     Ok(session.close())
 }
 
-/// Makes an engine over a route, runs a session through, and retires the engine, also where the set-up is refused. Memory is asked for before
-/// anything else is done.
+/// Makes an engine over a route, runs a session through, and retires the engine, also where the set-up is refused. Each call stands in the list with no
+/// answer yet, so that no second list is needed.
 pub(crate) fn run_end<R: Route>(
-    heap: Global,
     route: R,
     agreement: Agreement,
-    calls: Vec<SessionCall>,
+    mut answered: Vec<Answered>,
 ) -> Result<End, ExchangeError>
-    ensures { Ended (agreed agreement.entry (R.Route.tally route)) calls.items result }
+    ensures { Ended (agreed agreement.entry (R.Route.tally route)) (calls_left answered.items) result }
 {
-    let mut answered = Vec::with_capacity(heap, calls.len())?;
     let mut engine = Engine::new(route);
-    let ran = run_through(&mut engine, agreement, calls, &mut answered);
+    let ran = run_through(&mut engine, agreement, &mut answered);
     let tally = engine.retire().tally();
     let closed = ran?;
     Ok(End {

@@ -1,28 +1,25 @@
-use Rattle.std.proofs.Common.{◌∷◌, ◌++◌, rules, [], length, sym, refl, ap, ◌∙◌, subst, arith, append_assoc, length-append}
-use Rattle.sessions.specs.Exchanges.{answers_given, calls_left, Carried}
+use Rattle.std.proofs.Common.{refl, arith}
+use Rattle.std.proofs.lemmas.List.{with_items_is}
 use Rattle.sessions.specs.Reading.{held_by}
-use Rattle.sessions.proofs.Exchanges.{carried_none, noted_more}
+use Rattle.sessions.specs.declared.call.Answered.{Answered}
+use Rattle.sessions.proofs.Exchanges.{carried_none, carried_next, rest_next, carried_all}
 use Rattle.sessions.proofs.carry.carry_out.Goals as goal
 
-pub loop-call-init : goal.loop-call-init
-loop-call-init g c =
-    let h = held_by g.R.Route.tally c.args.engine.now c.args.session.now in (
-      tt,
-      tt,
-      subst (λ xs. Carried h [] (answers_given xs) (calls_left xs) h) (sym c.requires.none) (carried_none h),
-      search rules,
-      c.args.answered.now.ok.0 ∙ ap length c.requires.none,
-      refl,
+pub loop-one-init : goal.loop-one-init
+loop-one-init g c = (carried_none (held_by g.R.Route.tally c.args.engine.now c.args.session.now), refl)
+
+pub loop-one-preserved : goal.loop-one-preserved
+loop-one-preserved g c =
+    let before = c.deref_mut-one-items.result.now in
+    let now' = c.loop-one.one-items in
+    let i = c.loop-one.one-index in
+    let noted : Answered = record { call = c.carry_out_one-one.new.call; answer = c.carry_out_one-one.result } in (
+      carried_next before now' i (omega arith) c.loop-one.auto.one-items c.loop-one.invariant.1 c.one-item.result noted c.loop-one.invariant.0 c.carry_out_one-one.ensures,
+      rest_next before now' i (omega arith) c.loop-one.auto.one-items c.loop-one.invariant.1 noted,
     )
 
-pub loop-call-preserved : goal.loop-call-preserved
-loop-call-preserved g c =
-    let call = c.in-Some.call in
-    let before = c.loop-call.yielded in (
-      tt,
-      tt,
-      noted_more _ _ _ c.push_reserved.ensures.items c.loop-call.invariant.2 c.carry_out_one-answer.ensures,
-      append_assoc before (call ∷ []) _ ∙ ap (λ xs. before ++ xs) (sym c.in-Some.ensures.steps.0) ∙ c.loop-call.invariant.3,
-      omega (arith, length-append before (call ∷ [])),
-      c.push_reserved.ensures.capacity ∙ c.loop-call.invariant.5,
-    )
+pub returns : goal.returns
+returns g c =
+    let items = c.loop-one.one-items in
+    let known = c.deref_mut-one-items.ensures in
+    carried_all c.deref_mut-one-items.result.now items _ _ c.loop-one.one-index (omega arith) (omega arith) known.value (with_items_is c.args.answered.now items (omega arith)) c.loop-one.invariant.0
