@@ -1,5 +1,5 @@
 -- A KeySchedule is the schedule of its key, word by word and round key by round key. Assumes nothing.
-use Rattle.std.proofs.Common.{◌≡◌, ℕ, ◌*◌, ◌/◌, ◌<◌, ◌≤◌, [], List, length, take, get_or, sym, ap, ◌∙◌, arith, length-take}
+use Rattle.std.proofs.Common.{◌≡◌, ℕ, ◌+◌, ◌*◌, ◌/◌, ◌<◌, ◌≤◌, [], ◌∷◌, List, length, take, get_or, sym, ap, ◌∙◌, arith, length-take}
 use Rattle.std.proofs.Math.Seq.{take-length}
 use Rattle.std.specs.Simd.{first_chunks}
 use Rattle.std.proofs.lemmas.List.{length-map, length-take-le}
@@ -25,6 +25,11 @@ module _ (s : KeySchedule) where
 
   pub schedule_word : (i : ℕ) → i < schedule_length s.key_words → get_or s.words i [] ≡ word_bytes (get_or (key_schedule s.key_words (schedule_key s)) i zero_word)
   schedule_word i h = held_at s.words (schedule_length s.key_words) _ s.expanded i h full
+
+  -- The four words of round r are its round key.
+  pub schedule_round_key : (r : ℕ) → r ≤ round_count s.key_words → columns_state (get_or s.words (4 * r) [] ∷ get_or s.words (4 * r + 1) [] ∷ get_or s.words (4 * r + 2) [] ∷ get_or s.words (4 * r + 3) [] ∷ []) ≡ round_key (schedule_words s) r
+  schedule_round_key r h =
+      held_round_key s.words (schedule_length s.key_words) _ s.expanded schedule_room r (omega arith) ∙ ap (λ ws. round_key ws r) (sym schedule_is)
 
   -- The chunks of the words in use are the round keys.
   pub chunk_round_key : (used : List (List ℕ)) → used ≡ take (schedule_length s.key_words) s.words → (n r : ℕ) → n ≡ length used / 4 → r ≤ round_count s.key_words → columns_state (get_or (first_chunks 4 n used) r []) ≡ round_key (schedule_words s) r

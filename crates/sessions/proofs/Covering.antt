@@ -1,18 +1,21 @@
 -- Covering step by step: bytes by their places, one block, and pieces that are written in place. Assumes nothing.
-use Rattle.std.proofs.Common.{◌≡◌, ℕ, zero, suc, ◌+◌, ◌-◌, ◌*◌, ◌<◌, ◌≤◌, min, List, [], ◌∷◌, ◌++◌, length, get_or, take, drop, Some, None, Ok, Option, Result, sym, refl, ap, ◌∙◌, ⊎_elim, not-suc-le-zero, mul-suc, add-one, arith, length-drop, length-take-le, take_all, drop-drop, take_at, ext_get_or, drop_at, below_more}
+use Rattle.std.proofs.Common.{◌≡◌, ℕ, zero, suc, ◌+◌, ◌-◌, ◌*◌, ◌<◌, ◌≤◌, min, true, List, [], ◌∷◌, ◌++◌, length, get_or, take, drop, is_ok, Some, None, Ok, Err, Option, Result, sym, refl, ap, ◌∙◌, ⊎_elim, not-suc-le-zero, mul-suc, add-one, arith, length-drop, length-take-le, take_all, drop-drop, take_at, ext_get_or, drop_at, below_more}
 use lib.Bits.{bit_xor}
 use borrow.Rule.Slice.PartMut.{put_mid}
 use Rattle.std.proofs.lemmas.List.{nil_from_length, take-append-drop, append-nil}
 use Rattle.std.proofs.lemmas.Slice.{drop-put_mid}
 use Rattle.std.proofs.lemmas.Result.{MatchResult-at_ok}
 use Rattle.std.proofs.lemmas.Bool.{cases_lt}
-use Rattle.cipher.specs.Engines.{engine_key, Turned, TurnedBy}
+use Rattle.std.proofs.lemmas.Bool.Decides.{nat_tests}
+use Rattle.cipher.specs.Engines.{engine_key, block_verdict, Turned, TurnedBy}
 use Rattle.cipher.specs.Fips197.{aes}
 use Rattle.cipher.specs.declared.engine.Engine.{Engine}
+use Rattle.routes.specs.Refusals.{numbers}
+use Rattle.routes.specs.Routes.{cap}
 use Rattle.routes.specs.declared.refusal.Refusal.{Refusal}
-use Rattle.cipher.specs.Keys.{key_rounds}
+use Rattle.cipher.specs.Keys.{key_length, key_rounds}
 use Rattle.sessions.specs.Counters.{counter_block, piece, plus}
-use Rattle.sessions.specs.Covering.{Spent, Added, key_of}
+use Rattle.sessions.specs.Covering.{Ready, Spent, Added, key_of}
 use Rattle.sessions.specs.Histories.{encrypted}
 use Rattle.sessions.specs.Reading.{key_or_none}
 use Rattle.sessions.proofs.Pieces.{length-plus, piece_of_front}
@@ -33,7 +36,20 @@ plus_by_places xs ys zs e l same =
 
 -- ---- one block
 
+-- An engine that is ready takes a block.
+ready_verdict : (o : Option (List ℕ)) (n t : ℕ) → key_length (length (key_or_none o)) ≡ true → t + key_rounds (length (key_or_none o)) * 1 ≤ cap → n ≡ 16 → block_verdict o n t ≡ None
+ready_verdict None n t keyed paid e = let no_way : ⊥ = grind arith in absurd no_way
+ready_verdict (Some key) n t keyed paid e = grind (arith, nat_tests)
+
 module _ {R : Type 0} (tally : R → ℕ) (before after : Engine R) (block block' : List ℕ) where
+  pub ready_is_ok : {X : Type 0} (r : Result X Refusal) → Ready tally before 1 → length block ≡ 16 → Turned tally before after aes block block' r → is_ok r ≡ true
+  ready_is_ok (Ok x) ready e turned = refl
+  ready_is_ok (Err d) ready e turned =
+      let taken : block_verdict (engine_key before) (length block) (tally before.route) ≡ None = ready_verdict (engine_key before) (length block) _ ready.keyed ready.paid e in
+      let refused : Some (numbers d) ≡ None = sym turned.0 ∙ taken in
+      let no_way : ⊥ = grind arith in
+      absurd no_way
+
   turned_by : (o : Option (List ℕ)) → TurnedBy tally before after aes o block block' → (block' ≡ encrypted (key_or_none o) block) × (key_of after ≡ key_or_none o) × (tally after.route ≡ tally before.route + key_rounds (length (key_or_none o)))
   unfolding encrypted
   turned_by None h = absurd h
