@@ -18,6 +18,12 @@ pub enum RunVerb {
 }
 
 impl fmt::Display for RunVerb {
+    ghost use Rattle.std.specs.Prelude.{Some};
+    ghost use Rattle.console.specs.Lines.{verb_text};
+    ghost use Rattle.console.specs.declared.verb.Verb.TheVariants.{OnRun};
+
+    ghost output = { λ verb. Some (verb_text (OnRun verb)) };
+
     fn fmt<W: fmt::Write>(&self, f: &mut fmt::Formatter<W>) -> fmt::Result {
         f.pad(match self {
             RunVerb::Key => "key",
@@ -40,6 +46,12 @@ pub enum LoneVerb {
 }
 
 impl fmt::Display for LoneVerb {
+    ghost use Rattle.std.specs.Prelude.{Some};
+    ghost use Rattle.console.specs.Lines.{verb_text};
+    ghost use Rattle.console.specs.declared.verb.Verb.TheVariants.{Alone};
+
+    ghost output = { λ verb. Some (verb_text (Alone verb)) };
+
     fn fmt<W: fmt::Write>(&self, f: &mut fmt::Formatter<W>) -> fmt::Result {
         f.pad(match self {
             LoneVerb::Remaining => "remaining",

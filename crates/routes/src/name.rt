@@ -1,5 +1,5 @@
 //! The five routes by name.
-ghost use Rattle.std.specs.Prelude.{◌≡◌};
+ghost use Rattle.std.specs.Prelude.{◌≡◌, Some, codes};
 ghost use Rattle.routes.specs.Names.{name_text, Named, ok_of, route_at};
 
 use std::error::Error;
@@ -46,6 +46,8 @@ impl RouteName {
 }
 
 impl fmt::Display for RouteName {
+    ghost output = { λ name. Some (name_text name) };
+
     fn fmt<W: fmt::Write>(&self, f: &mut fmt::Formatter<W>) -> fmt::Result {
         f.pad(self.text())
     }
@@ -56,6 +58,8 @@ impl fmt::Display for RouteName {
 pub struct UnknownRoute;
 
 impl fmt::Display for UnknownRoute {
+    ghost output = { λ _. Some (codes "power, split, table, nibble-pair or bit-tower was expected") };
+
     fn fmt<W: fmt::Write>(&self, f: &mut fmt::Formatter<W>) -> fmt::Result {
         write!(
             f,
