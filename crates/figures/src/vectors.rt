@@ -7,6 +7,7 @@ use cipher::Word;
 use std::alloc::{AllocError, Global};
 
 /// What is published: what has to come out on every route.
+#[derive(Clone, Copy)]
 pub enum Claim {
     /// The key has this schedule.
     Expands(&'static [u8], &'static [Word]),
@@ -31,6 +32,7 @@ impl Claim {
 }
 
 /// A published vector.
+#[derive(Clone, Copy)]
 pub struct Vector {
     /// Under which it is printed.
     pub label: &'static str,
